@@ -1,0 +1,4 @@
+pub mod Ints
+pub mod EditKinds
+pub mod Nearest
+pub mod Ranges

@@ -1,0 +1,4 @@
+pub mod Cells
+pub mod Rules
+pub mod Grading
+pub mod Starred
