@@ -1,0 +1,96 @@
+ghost use mathlib.Core.Path.{_≡_};
+ghost use mathlib.Core.List.{List, [], _∷_};
+ghost use Prim.Native.Nat.{ℕ};
+ghost use Rattle.std.specs.Vec.{made};
+ghost use Rattle.sheet.specs.Cells.{cellsOf};
+ghost use Rattle.sheet.specs.Rules.{opening, cellAt, next};
+ghost use Rattle.machine.specs.Sheets.{putBack, undoStates};
+use super::Replaced;
+use super::UndoMachine;
+use crate::state_machine::StateMachine;
+use refusal::Refusal;
+use sheet::Edit;
+use sheet::Sheet;
+use std::alloc::AllocError;
+use std::alloc::Global;
+
+const OPEN_MAX: usize = 16;
+
+// What takes the edit back from the sheet after it.
+fn replaced_by(sheet: Sheet, edit: Edit) -> Replaced
+    ensures { λ r. ⌜ putBack (next (cellsOf sheet) edit) r ≡ cellsOf sheet ⌝ }
+{
+    Replaced {
+        number: edit.row,
+        row: sheet.row(edit.row),
+    }
+}
+
+fn put_back(sheet: Sheet, replaced: Replaced) -> Sheet
+    ensures { λ r. ⌜ cellsOf r ≡ putBack (cellsOf sheet) replaced ⌝ }
+{
+    match replaced.row {
+        Some(row) => sheet.with_row(replaced.number, row),
+        None => sheet,
+    }
+}
+
+impl UndoMachine {
+    // The machine at its opening state, with memory for sixteen open edits.
+    pub fn open(heap: Global) -> Result<Self, AllocError>
+        ensures { λ r. ⌜ made r (λ m. undoStates m ≡ opening ∷ []) ⌝ }
+    {
+        let replaced = Vec::with_capacity(heap, OPEN_MAX)?;
+        Ok(UndoMachine {
+            newest: Sheet::blank(),
+            replaced,
+        })
+    }
+}
+
+pub impl StateMachine for UndoMachine as UndoStateMachine {
+    ghost State = { List (List ℕ) };
+
+    ghost opening = { opening };
+
+    ghost next = { next };
+
+    ghost cell = { cellAt };
+
+    ghost states = { undoStates };
+
+    fn apply(&mut self, edit: Edit) -> Result<(), Refusal> {
+        if self.replaced.len() >= OPEN_MAX {
+            return Err(Refusal::OutOfBounds);
+        }
+        let before = self.newest;
+        self.replaced.push_reserved(replaced_by(before, edit));
+        self.newest = before.apply(edit);
+        Ok(())
+    }
+
+    fn undo(&mut self) -> Result<(), Refusal> {
+        let Some(last) = self.replaced.pop() else {
+            return Err(Refusal::OutOfBounds);
+        };
+        self.newest = put_back(self.newest, last);
+        Ok(())
+    }
+
+    fn settle(&mut self) -> Result<(), Refusal> {
+        if self.replaced.is_empty() {
+            return Err(Refusal::OutOfBounds);
+        }
+        let _ = self.replaced.remove(0);
+        Ok(())
+    }
+
+    fn reset(&mut self) {
+        self.newest = Sheet::blank();
+        self.replaced.clear();
+    }
+
+    fn read(&self, row: i32, size: i32) -> Result<u16, Refusal> {
+        self.newest.cell(row, size).ok_or(Refusal::OutOfBounds)
+    }
+}
