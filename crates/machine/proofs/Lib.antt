@@ -1,3 +1,4 @@
 pub mod Counts
+pub mod Several
 pub mod StepsBack
 pub mod StepsOn

@@ -1,7 +1,7 @@
 -- The states of a machine, newest first, and what each move makes of them. A refusal has the number 15 and changes nothing.
 use mathlib.Core.Bool.{cond}
 use mathlib.Core.List.{List, [], _∷_}
-use Prim.Native.Nat.{ℕ, _≤_, _-_}
+use Prim.Native.Nat.{ℕ, zero, suc, _≤_, _-_}
 use lib.Dec.{ltb}
 use lib.ListN.{length, take, drop}
 use Rattle.std.specs.Options.{okOr}
@@ -37,6 +37,15 @@ module _ {X : Type 0} where
 
   abbrev pub settled : List X → List X
   settled xs = cond (ltb 1 (length xs)) (take (length xs - 1) xs) xs
+
+  -- Several moves, one after the other; those that are refused change nothing.
+  abbrev pub appliedAll : X → (X → Edit → X) → List Edit → List X → List X
+  appliedAll opening next [] xs = xs
+  appliedAll opening next (e ∷ es) xs = appliedAll opening next es (applied opening next e xs)
+
+  abbrev pub undoneTimes : ℕ → List X → List X
+  undoneTimes zero xs = xs
+  undoneTimes (suc k) xs = undone (undoneTimes k xs)
 
 -- Reading tells a cell, and is refused only where there is no such cell.
 abbrev pub readAnswer : Option ℕ → Result ℕ ℕ
