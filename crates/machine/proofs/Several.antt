@@ -32,32 +32,32 @@ module _ {X : Type 0} (opening : X) (next : X → Edit → X) where
   length-all [] xs h = omega arith
   length-all (e ∷ es) xs h =
       elim (cases-lt (length xs) 17) [
-        inl l ↦
-          let a : applied opening next e xs ≡ next (newest opening xs) e ∷ xs = cond-true _ _ xs (lt-ltb (length xs) 17 l) in
-          ap (λ (ys : List X). length (appliedAll opening next es ys)) a ∙ length-all es (next (newest opening xs) e ∷ xs) (omega arith) ∙ omega arith
-      | inr l ↦
-          let a : applied opening next e xs ≡ xs = cond-false _ (next (newest opening xs) e ∷ xs) xs (le-ltb (length xs) 17 l) in
-          ap (λ (ys : List X). length (appliedAll opening next es ys)) a ∙ length-all es xs h ∙ omega arith
+        | inl l ↦
+            let a : applied opening next e xs ≡ next (newest opening xs) e ∷ xs = cond-true _ _ xs (lt-ltb (length xs) 17 l) in
+            ap (λ (ys : List X). length (appliedAll opening next es ys)) a ∙ length-all es (next (newest opening xs) e ∷ xs) (omega arith) ∙ omega arith
+        | inr l ↦
+            let a : applied opening next e xs ≡ xs = cond-false _ (next (newest opening xs) e ∷ xs) xs (le-ltb (length xs) 17 l) in
+            ap (λ (ys : List X). length (appliedAll opening next es ys)) a ∙ length-all es xs h ∙ omega arith
       ]
 
   pub drop-all : (es : List Edit) (xs : List X) → length xs ≤ 17 → drop (min (length es) (17 - length xs)) (appliedAll opening next es xs) ≡ xs
   drop-all [] xs h = let z : min 0 (17 - length xs) ≡ 0 = omega arith in ap (λ (k : ℕ). drop k xs) z
   drop-all (e ∷ es) xs h =
       elim (cases-lt (length xs) 17) [
-        inl l ↦
-          let a : applied opening next e xs ≡ next (newest opening xs) e ∷ xs = cond-true _ _ xs (lt-ltb (length xs) 17 l) in
-          let ys : List X = next (newest opening xs) e ∷ xs in
-          let k : min (length (e ∷ es)) (17 - length xs) ≡ min (length es) (17 - length ys) + 1 = omega arith in
-          ap (λ (zs : List X). drop (min (length (e ∷ es)) (17 - length xs)) (appliedAll opening next es zs)) a
-          ∙ ap (λ (n : ℕ). drop n (appliedAll opening next es ys)) k
-          ∙ sym (drop-drop 1 (min (length es) (17 - length ys)) (appliedAll opening next es ys))
-          ∙ ap (drop 1) (drop-all es ys (omega arith))
-      | inr l ↦
-          let a : applied opening next e xs ≡ xs = cond-false _ (next (newest opening xs) e ∷ xs) xs (le-ltb (length xs) 17 l) in
-          let k : min (length (e ∷ es)) (17 - length xs) ≡ min (length es) (17 - length xs) = omega arith in
-          ap (λ (zs : List X). drop (min (length (e ∷ es)) (17 - length xs)) (appliedAll opening next es zs)) a
-          ∙ ap (λ (n : ℕ). drop n (appliedAll opening next es xs)) k
-          ∙ drop-all es xs h
+        | inl l ↦
+            let a : applied opening next e xs ≡ next (newest opening xs) e ∷ xs = cond-true _ _ xs (lt-ltb (length xs) 17 l) in
+            let ys : List X = next (newest opening xs) e ∷ xs in
+            let k : min (length (e ∷ es)) (17 - length xs) ≡ min (length es) (17 - length ys) + 1 = omega arith in
+            ap (λ (zs : List X). drop (min (length (e ∷ es)) (17 - length xs)) (appliedAll opening next es zs)) a
+            ∙ ap (λ (n : ℕ). drop n (appliedAll opening next es ys)) k
+            ∙ sym (drop-drop 1 (min (length es) (17 - length ys)) (appliedAll opening next es ys))
+            ∙ ap (drop 1) (drop-all es ys (omega arith))
+        | inr l ↦
+            let a : applied opening next e xs ≡ xs = cond-false _ (next (newest opening xs) e ∷ xs) xs (le-ltb (length xs) 17 l) in
+            let k : min (length (e ∷ es)) (17 - length xs) ≡ min (length es) (17 - length xs) = omega arith in
+            ap (λ (zs : List X). drop (min (length (e ∷ es)) (17 - length xs)) (appliedAll opening next es zs)) a
+            ∙ ap (λ (n : ℕ). drop n (appliedAll opening next es xs)) k
+            ∙ drop-all es xs h
       ]
 
 -- undone as often as that, where a state is left, drops as many
@@ -86,10 +86,10 @@ pub one-more : {X : Type 0} (opening : X) (next : X → Edit → X) (e : Edit) (
 one-more {X} opening next e xs ys r a h =
     let o : isOk r ≡ ltb (length xs) 17 = ok-told r (ltb (length xs) 17) a in
     elim (cases-bool (ltb (length xs) 17)) [
-      inl t ↦
-        let k : _≡_ {A = ℕ} (cond (isOk r) 1 0) 1 = cond-true _ 1 0 (o ∙ t) in
-        let l : length ys ≡ suc (length xs) = ap length (h ∙ cond-true _ (next (newest opening xs) e ∷ xs) xs t) in omega arith
-    | inr t ↦
-        let k : _≡_ {A = ℕ} (cond (isOk r) 1 0) 0 = cond-false _ 1 0 (o ∙ t) in
-        let l : length ys ≡ length xs = ap length (h ∙ cond-false _ (next (newest opening xs) e ∷ xs) xs t) in omega arith
+      | inl t ↦
+          let k : _≡_ {A = ℕ} (cond (isOk r) 1 0) 1 = cond-true _ 1 0 (o ∙ t) in
+          let l : length ys ≡ suc (length xs) = ap length (h ∙ cond-true _ (next (newest opening xs) e ∷ xs) xs t) in omega arith
+      | inr t ↦
+          let k : _≡_ {A = ℕ} (cond (isOk r) 1 0) 0 = cond-false _ 1 0 (o ∙ t) in
+          let l : length ys ≡ length xs = ap length (h ∙ cond-false _ (next (newest opening xs) e ∷ xs) xs t) in omega arith
     ]

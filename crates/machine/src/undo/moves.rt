@@ -17,8 +17,8 @@ use std::alloc::Global;
 const OPEN_MAX: usize = 16;
 
 // What takes the edit back from the sheet after it.
-fn replaced_by(sheet: Sheet, edit: Edit) -> Replaced
-    ensures { λ r. ⌜ putBack (next (cellsOf sheet) edit) r ≡ cellsOf sheet ⌝ }
+fn replaced_by(sheet: &Sheet, edit: Edit) -> Replaced
+    ensures { λ r. ⌜ putBack (next (cellsOf (now (sheet .entry))) edit) r ≡ cellsOf (now (sheet .entry)) ⌝ }
 {
     Replaced {
         number: edit.row,
@@ -26,12 +26,11 @@ fn replaced_by(sheet: Sheet, edit: Edit) -> Replaced
     }
 }
 
-fn put_back(sheet: Sheet, replaced: Replaced) -> Sheet
-    ensures { λ r. ⌜ cellsOf r ≡ putBack (cellsOf sheet) replaced ⌝ }
+fn put_back(sheet: &mut Sheet, replaced: Replaced)
+    ensures { λ _. ⌜ cellsOf (now (sheet .exit)) ≡ putBack (cellsOf (now (sheet .entry))) replaced ⌝ }
 {
-    match replaced.row {
-        Some(row) => sheet.with_row(replaced.number, row),
-        None => sheet,
+    if let Some(row) = replaced.row {
+        sheet.replace_row(replaced.number, row);
     }
 }
 
@@ -63,9 +62,9 @@ pub impl StateMachine for UndoMachine as UndoStateMachine {
         if self.replaced.len() >= OPEN_MAX {
             return Err(Refusal::OutOfBounds);
         }
-        let before = self.newest;
-        self.replaced.push_reserved(replaced_by(before, edit));
-        self.newest = before.apply(edit);
+        let replaced = replaced_by(&self.newest, edit);
+        self.replaced.push_reserved(replaced);
+        self.newest.change(edit);
         Ok(())
     }
 
@@ -73,7 +72,7 @@ pub impl StateMachine for UndoMachine as UndoStateMachine {
         let Some(last) = self.replaced.pop() else {
             return Err(Refusal::OutOfBounds);
         };
-        self.newest = put_back(self.newest, last);
+        put_back(&mut self.newest, last);
         Ok(())
     }
 

@@ -24,13 +24,14 @@ loop-edit-again g c =
     let e = getD (c .args .edits .now) (c .loop-edit .edit-index) any in
     let l = one-more (m .opening) (m .next) e (m .states (c .loop-edit .machine)) (m .states (c .apply .last .self)) (c .apply .result) (c .apply .ensures .answer) (c .apply .ensures .after) in
     let n : length (m .states (c .apply .last .self)) ≡ length (m .states (c .args .machine .now)) + c .if-is-ok .applied =
-        elim (c .if-is-ok .came) [
-          then-is-ok w ↦ let k : _≡_ {A = ℕ} (cond (isOk (c .apply .result)) 1 0) 1 = cond-true _ 1 0 (sym (c .is-ok .ensures .value) ∙ w .if-is-ok .taken) in omega (arith, w .applied-is, c .loop-edit .inv .1)
-        | else-is-ok w ↦ let k : _≡_ {A = ℕ} (cond (isOk (c .apply .result)) 1 0) 0 = cond-false _ 1 0 (sym (c .is-ok .ensures .value) ∙ w .if-is-ok .left) in omega (arith, w .applied-is, c .loop-edit .inv .1)
-        ] in
-    (c .apply .ensures .after ∙ ap (applied (m .opening) (m .next) e) (c .loop-edit .inv .0)
-      ∙ all-more (m .opening) (m .next) (c .args .edits .now) (c .loop-edit .edit-index) any (m .states (c .args .machine .now)) (c .loop-edit-test .taken),
-     n)
+    elim (c .if-is-ok .came) [
+      | then-is-ok w ↦ let k : _≡_ {A = ℕ} (cond (isOk (c .apply .result)) 1 0) 1 = cond-true _ 1 0 (sym (c .is-ok .ensures .value) ∙ w .if-is-ok .taken) in omega (arith, w .applied-is, c .loop-edit .inv .1)
+      | else-is-ok w ↦ let k : _≡_ {A = ℕ} (cond (isOk (c .apply .result)) 1 0) 0 = cond-false _ 1 0 (sym (c .is-ok .ensures .value) ∙ w .if-is-ok .left) in omega (arith, w .applied-is, c .loop-edit .inv .1)
+    ] in (
+      c .apply .ensures .after ∙ ap (applied (m .opening) (m .next) e) (c .loop-edit .inv .0)
+          ∙ all-more (m .opening) (m .next) (c .args .edits .now) (c .loop-edit .edit-index) any (m .states (c .args .machine .now)) (c .loop-edit-test .taken),
+      n,
+    )
 
 pub returns : need.returns
 returns g c =

@@ -27,7 +27,9 @@ returns c =
     let es = vec-items (c .args .self .now .edits) in
     let l = on-count s es in
     let h : 0 < length es = omega (arith, c .args .self .now .edits .ok .0, c .remove-first .ensures .len) in
-    record { answer = drop-told _ (length es) l h;
+    record {
+      answer = drop-told _ (length es) l h;
       after = ap (stepsOn (cellsOf (c .apply-self .result) ∷ [])) (c .remove-first .ensures .items)
-        ∙ ap (λ (t : List (List ℕ)). stepsOn (t ∷ []) (drop 1 es)) (c .apply-self .ensures)
-        ∙ on-settled s es (c .remove-first .result) h (c .remove-first .ensures .value) ∙ settled-is _ (length es) l h }
+          ∙ ap (λ (t : List (List ℕ)). stepsOn (t ∷ []) (drop 1 es)) (c .apply-self .ensures)
+          ∙ on-settled s es (c .remove-first .result) h (c .remove-first .ensures .value) ∙ settled-is _ (length es) l h;
+    }

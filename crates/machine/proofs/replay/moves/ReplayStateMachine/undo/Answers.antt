@@ -18,8 +18,10 @@ returns-in-Some c =
     let es = vec-items (c .args .self .now .edits) in
     let l = on-count s es in
     let h : 0 < length es = omega (arith, c .args .self .now .edits .ok .0, c .in-Some .ensures tt .cases) in
-    record { answer = drop-told _ (length es) l h;
-      after = on-undone s es (vec-items (c .pop .last .self)) (c .in-Some .field-0) (c .in-Some .ensures tt .items) ∙ undone-is _ (length es) l h }
+    record {
+      answer = drop-told _ (length es) l h;
+      after = on-undone s es (vec-items (c .pop .last .self)) (c .in-Some .field-0) (c .in-Some .ensures tt .items) ∙ undone-is _ (length es) l h;
+    }
 
 pub returns-in-None : need.returns-in-None
 unfolding replayStates

@@ -31,8 +31,8 @@ returns c =
     ap (λ (x : List (List ℕ)). next x (c .args .edit) ∷ stepsBack s (reverse rs)) (sym (back-newest opening s (reverse rs))) ∙ applied-is _ (length rs) l opening next (c .args .edit) h in
     record {
       answer = apply-told _ (length rs) l h;
-      after = ap (λ (t : List (List ℕ)). stepsBack t (reverse (vec-items (c .push-reserved .last .self)))) (c .apply-self .ensures)
+      after = ap (λ (t : List (List ℕ)). stepsBack t (reverse (vec-items (c .push-reserved .last .self)))) (c .change .ensures)
           ∙ ap (λ (us : List Replaced). stepsBack (next s (c .args .edit)) (reverse us)) (c .push-reserved .ensures .items)
-          ∙ back-more (next s (c .args .edit)) rs (c .replaced-by .result)
-          ∙ ap (λ (x : List (List ℕ)). next s (c .args .edit) ∷ stepsBack x (reverse rs)) (c .replaced-by .ensures) ∙ n;
+          ∙ back-more (next s (c .args .edit)) rs (c .replaced-by-replaced .result)
+          ∙ ap (λ (x : List (List ℕ)). next s (c .args .edit) ∷ stepsBack x (reverse rs)) (c .replaced-by-replaced .ensures) ∙ n;
     }

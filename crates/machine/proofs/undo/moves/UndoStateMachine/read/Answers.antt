@@ -22,4 +22,4 @@ returns c =
     let e : c .cell .result ≡ cellAt (cellsOf (c .args .self .now .newest)) (c .args .row) (c .args .size) = simp toZ-ofZ at (c .cell .ensures) in
     ap told (c .ok-or .ensures .value) ∙ read-told (c .cell .result)
     ∙ ap readAnswer (e ∙ ap (λ (s : List (List ℕ)). cellAt s (c .args .row) (c .args .size))
-      (sym (back-newest opening (cellsOf (c .args .self .now .newest)) (reverse (vec-items (c .args .self .now .replaced))))))
+    (sym (back-newest opening (cellsOf (c .args .self .now .newest)) (reverse (vec-items (c .args .self .now .replaced))))))

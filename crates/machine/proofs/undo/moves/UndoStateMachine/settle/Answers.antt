@@ -28,5 +28,7 @@ returns c =
     let rs = vec-items (c .args .self .now .replaced) in
     let l = back-count s rs in
     let h : 0 < length rs = omega (arith, c .args .self .now .replaced .ok .0, c .remove .ensures .len) in
-    record { answer = drop-told _ (length rs) l h;
-      after = ap (λ (us : List Replaced). stepsBack s (reverse us)) (c .remove .ensures .items) ∙ back-settled s rs h ∙ settled-is _ (length rs) l h }
+    record {
+      answer = drop-told _ (length rs) l h;
+      after = ap (λ (us : List Replaced). stepsBack s (reverse us)) (c .remove .ensures .items) ∙ back-settled s rs h ∙ settled-is _ (length rs) l h;
+    }

@@ -20,8 +20,10 @@ returns-in-rest c =
     let l = back-count s rs in
     let h : length rs ≡ 0 = omega (arith, c .args .self .now .replaced .ok .0, c .in-rest .ensures tt .cases) in
     let e = c .in-rest .ensures tt .items ∙ append-nil (vec-items (c .pop .last .self)) in
-    record { answer = drop-refused _ (length rs) l h;
-      after = ap (λ (us : List Replaced). stepsBack s (reverse us)) (sym e) ∙ undone-same _ (length rs) l h }
+    record {
+      answer = drop-refused _ (length rs) l h;
+      after = ap (λ (us : List Replaced). stepsBack s (reverse us)) (sym e) ∙ undone-same _ (length rs) l h;
+    }
 
 pub returns : need.returns
 unfolding undoStates
@@ -30,6 +32,8 @@ returns c =
     let rs = vec-items (c .args .self .now .replaced) in
     let l = back-count s rs in
     let h : 0 < length rs = omega (arith, c .args .self .now .replaced .ok .0, c .in-Some .ensures tt .cases) in
-    record { answer = drop-told _ (length rs) l h;
-      after = back-undone s (cellsOf (c .put-back-self .result)) rs (vec-items (c .pop .last .self)) (c .in-Some .last) (c .in-Some .ensures tt .items) (c .put-back-self .ensures)
-        ∙ undone-is _ (length rs) l h }
+    record {
+      answer = drop-told _ (length rs) l h;
+      after = back-undone s (cellsOf (c .put-back .last .sheet)) rs (vec-items (c .pop .last .self)) (c .in-Some .last) (c .in-Some .ensures tt .items) (c .put-back .ensures)
+          ∙ undone-is _ (length rs) l h;
+    }
