@@ -5,11 +5,16 @@
 //!     reference draw SEED COUNT  prints a list of edits for edit_cases
 //!     reference count            tells what kinds of cases such a list holds
 //!     reference stars            checks the worked examples and the machines
+//!     reference images           runs the script of stores and images on the standard input
+//!     reference draw-images SEED prints a script for images
 
 mod draw;
+mod draw_images;
+mod images;
 mod rules;
 mod stars;
 
+use images::{Entry, Fault, Reader, Store, ENTRY, HEAD, OPENING};
 use rules::{Edit, Machine, Refusal, ReplayMachine, Sheet, UndoMachine, ROWS, SIZES};
 use std::io::{self, BufWriter, Read, Write};
 use std::process::ExitCode;
@@ -23,6 +28,11 @@ fn main() -> ExitCode {
         ["edit_cases"] => input().and_then(|text| edit_cases(&text, &mut out)),
         ["count"] => input().and_then(|text| draw::count(&text, &mut out)),
         ["stars"] => stars::check(&mut out),
+        ["images"] => input().and_then(|text| run_images(&text, &mut out)),
+        ["draw-images", seed] => match seed.parse() {
+            Ok(seed) => draw_images::draw(seed, &mut out),
+            Err(_) => return usage(),
+        },
         ["draw", seed, count] => match (seed.parse(), count.parse()) {
             (Ok(seed), Ok(count)) => draw::draw(seed, count, &mut out),
             _ => return usage(),
@@ -39,7 +49,10 @@ fn main() -> ExitCode {
 }
 
 fn usage() -> ExitCode {
-    eprintln!("reference waistband | edit_cases | draw SEED COUNT | count | stars");
+    eprintln!(
+        "reference waistband | edit_cases | draw SEED COUNT | count | stars | images \
+         | draw-images SEED"
+    );
     ExitCode::FAILURE
 }
 
@@ -291,4 +304,198 @@ fn write_rows(
         }
     }
     writeln!(out)
+}
+
+// ---- images ----
+
+/// The most bytes of a buffer to write into.
+const MAX_ROOM: u32 = 4_096;
+/// What stands in a buffer before anything is written.
+const UNTOUCHED: u8 = 255;
+
+enum ImageCommand<'a> {
+    Say(&'a [u8]),
+    Clear,
+    Set(u32, u16),
+    Append(Entry),
+    Sync,
+    Show,
+    Write(usize),
+    Read(Vec<u8>),
+    Reread,
+    Cut(usize),
+    Byte(usize, u8),
+    Load(Vec<u8>),
+}
+
+/// Digits and nothing else, for a number from 0 to `high`.
+fn natural(word: &[u8], high: u32) -> Option<u32> {
+    if word.starts_with(b"-") {
+        return None;
+    }
+    number(word, 0, high.into()).map(|value| value as u32)
+}
+
+/// One or more pairs of hexadecimal digits, the letters small.
+fn bytes_from(word: &[u8]) -> Option<Vec<u8>> {
+    let digit = |byte: u8| match byte {
+        b'0'..=b'9' => Some(byte - b'0'),
+        b'a'..=b'f' => Some(byte - b'a' + 10),
+        _ => None,
+    };
+    if word.is_empty() {
+        return None;
+    }
+    let pairs = word.chunks(2).map(|pair| match *pair {
+        [high, low] => Some(digit(high)? << 4 | digit(low)?),
+        _ => None,
+    });
+    pairs.collect()
+}
+
+fn entry_from(words: &[&[u8]]) -> Option<Entry> {
+    let (term, edit) = words.split_first()?;
+    // The kind is no word of the edit: no minus sign may stand before it.
+    natural(edit.first()?, u16::MAX.into())?;
+    Some(Entry {
+        term: natural(term, u32::MAX)?,
+        edit: edit_from(edit)?,
+    })
+}
+
+fn image_command(line: &[u8]) -> Option<ImageCommand<'_>> {
+    if let Some(text) = line.strip_prefix(b"say ") {
+        return Some(ImageCommand::Say(text));
+    }
+    let words = words(line);
+    let (&name, rest) = words.split_first()?;
+    let command = match (name, rest) {
+        (b"say", []) => ImageCommand::Say(b""),
+        (b"clear", []) => ImageCommand::Clear,
+        (b"set", &[term, vote]) => ImageCommand::Set(
+            natural(term, u32::MAX)?,
+            natural(vote, u16::MAX.into())? as u16,
+        ),
+        (b"append", rest) => ImageCommand::Append(entry_from(rest)?),
+        (b"sync", []) => ImageCommand::Sync,
+        (b"show", []) => ImageCommand::Show,
+        (b"write", &[room]) => ImageCommand::Write(natural(room, MAX_ROOM)? as usize),
+        (b"read", []) => ImageCommand::Read(Vec::new()),
+        (b"read", &[bytes]) => ImageCommand::Read(bytes_from(bytes)?),
+        (b"reread", []) => ImageCommand::Reread,
+        (b"cut", &[n]) => ImageCommand::Cut(natural(n, u32::MAX)? as usize),
+        (b"byte", &[at, value]) => ImageCommand::Byte(
+            natural(at, u32::MAX)? as usize,
+            natural(value, u8::MAX.into())? as u8,
+        ),
+        (b"load", []) => ImageCommand::Load(Vec::new()),
+        (b"load", &[bytes]) => ImageCommand::Load(bytes_from(bytes)?),
+        _ => return None,
+    };
+    Some(command)
+}
+
+fn run_images(script: &[u8], out: &mut impl Write) -> io::Result<()> {
+    let mut store = Store::default();
+    // The image last written.
+    let mut remembered = Vec::new();
+    for line in lines(script) {
+        let Some(command) = image_command(line) else {
+            writeln!(out, "not a command")?;
+            continue;
+        };
+        match command {
+            ImageCommand::Say(text) => {
+                out.write_all(text)?;
+                writeln!(out)?;
+            }
+            ImageCommand::Clear => store = Store::default(),
+            ImageCommand::Set(term, vote) => (store.term, store.vote) = (term, vote),
+            ImageCommand::Append(entry) => {
+                if store.append(entry) == Err(Refusal) {
+                    writeln!(out, "refused {}", Refusal::NUMBER)?;
+                }
+            }
+            ImageCommand::Sync => store.sync(),
+            ImageCommand::Show => write_store(&store, out)?,
+            ImageCommand::Write(room) => {
+                if let Some(image) = write_image(&store, room, out)? {
+                    remembered = image;
+                }
+            }
+            ImageCommand::Read(bytes) => write_read(&mut Store::default(), &bytes, out)?,
+            ImageCommand::Reread => write_read(&mut Store::default(), &remembered, out)?,
+            ImageCommand::Cut(n) => {
+                let front = remembered.get(..n).unwrap_or(&remembered);
+                write_read(&mut Store::default(), front, out)?;
+            }
+            ImageCommand::Byte(at, value) => {
+                let mut bytes = remembered.clone();
+                if let Some(byte) = bytes.get_mut(at) {
+                    *byte = value;
+                }
+                write_read(&mut Store::default(), &bytes, out)?;
+            }
+            ImageCommand::Load(bytes) => write_read(&mut store, &bytes, out)?,
+        }
+    }
+    Ok(())
+}
+
+fn write_store(store: &Store, out: &mut impl Write) -> io::Result<()> {
+    let (term, vote, durable) = (store.term, store.vote, store.durable);
+    let length = store.entries.len();
+    writeln!(out, "term {term} vote {vote} durable {durable} of {length}")?;
+    for (number, Entry { term, edit }) in (1..).zip(&store.entries) {
+        let Edit {
+            kind,
+            row,
+            size,
+            a,
+            q,
+        } = edit;
+        writeln!(out, "{number}: {term} {kind} {row} {size} {a} {q}")?;
+    }
+    Ok(())
+}
+
+/// Reads the bytes into the store and tells what was read, or the fault.
+fn write_read(store: &mut Store, bytes: &[u8], out: &mut impl Write) -> io::Result<()> {
+    let Err(fault) = store.read(bytes) else {
+        return write_store(store, out);
+    };
+    let Fault {
+        number,
+        offset,
+        reader,
+    } = fault;
+    let reader = match reader {
+        Reader::Field => "field",
+        Reader::Record => "record",
+        Reader::Image => "image",
+    };
+    writeln!(out, "fault {number} at {offset} by {reader}")
+}
+
+/// Writes the store's image into a buffer of that room, and gives the image that was written.
+fn write_image(store: &Store, room: usize, out: &mut impl Write) -> io::Result<Option<Vec<u8>>> {
+    let mut buffer = vec![UNTOUCHED; room];
+    let answer = store.write(&mut buffer);
+    let (image, behind) = buffer.split_at(answer.unwrap_or(0));
+    match answer {
+        Ok(length) => {
+            let (opening, entries) = image.split_at(HEAD + usize::from(OPENING.1));
+            let entries = entries.chunks(HEAD + usize::from(ENTRY.1));
+            for record in std::iter::once(opening).chain(entries) {
+                let bytes: Vec<String> = record.iter().map(|byte| format!("{byte:02x}")).collect();
+                writeln!(out, "{}", bytes.join(" "))?;
+            }
+            writeln!(out, "{length} bytes")?;
+        }
+        Err(number) => writeln!(out, "refused {number}")?,
+    }
+    if behind.iter().any(|&byte| byte != UNTOUCHED) {
+        writeln!(out, "the buffer changed")?;
+    }
+    Ok(answer.is_ok().then(|| image.to_vec()))
 }

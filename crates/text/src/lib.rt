@@ -1,10 +1,11 @@
 // Numbers, edits and measures as text.
 ghost use mathlib.Core.Path.{_≡_};
+ghost use Prim.Native.Nat.{ℕ};
 ghost use lib.IntN.{ℤ, pos, _-ℤ_};
 ghost use Rattle.std.specs.Options.{Cases as BySome};
 ghost use Rattle.std.specs.Of.String.{string-bytes};
 ghost use Rattle.std.specs.Vec.{made};
-ghost use Rattle.text.specs.Written.{Written, inMillimetres};
+ghost use Rattle.text.specs.Written.{Written, WrittenPlain, hexValue, inMillimetres};
 use sheet::Edit;
 use std::alloc::AllocError;
 use std::alloc::Global;
@@ -16,6 +17,27 @@ pub fn number(word: &str) -> Option<i32>
     match word.as_bytes() {
         [b'+', ..] => None,
         _ => word.parse::<i32>().ok(),
+    }
+}
+
+// The number that the word writes: digits alone.
+pub fn unsigned(word: &str) -> Option<u32>
+    ensures { λ r. ⌜ BySome r ((n : ℕ) → WrittenPlain (now (word .entry)) n → ⊥) (λ n. WrittenPlain (now (word .entry)) n) ⌝ }
+{
+    match word.as_bytes() {
+        [b'+', ..] => None,
+        _ => word.parse::<u32>().ok(),
+    }
+}
+
+// The value of a hexadecimal digit: 0 to 9, a to f.
+pub fn hex_digit(digit: u8) -> Option<u8>
+    ensures { λ r. ⌜ r ≡ hexValue digit ⌝ }
+{
+    match digit {
+        b'0'..=b'9' => Some(digit - b'0'),
+        b'a'..=b'f' => Some(digit - b'a' + 10),
+        _ => None,
     }
 }
 
