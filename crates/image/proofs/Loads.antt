@@ -21,10 +21,10 @@ use Rattle.refusal.specs.Numbers.{told}
 use Rattle.record.specs.declared.entry.Entry.{Entry}
 use Rattle.record.specs.declared.kinds.Ballot.{Ballot}
 use Rattle.record.specs.Format.{EntryFits}
-use Rattle.store.specs.Stores.{StoreState, Sound, cleared, appendAnswer, appended, hasRoom, entryAnswer, added, synced}
+use Rattle.store.specs.Stores.{StoreState, appendAnswer, appended, hasRoom, entryAnswer, added, synced}
 use Rattle.image.specs.declared.fault.ImageFault.{ImageFault}
 use Rattle.image.specs.Images.{image, ImageRead}
-use Rattle.image.specs.Stores.{isEmpty, loaded, ballotOf, durableOf, imageOf, durablePart, endedBy, leftBy, ReadInto}
+use Rattle.image.specs.Stores.{EmptyIsCleared, Writable, isEmpty, loaded, ballotOf, durableOf, imageOf, endedBy, leftBy, ReadInto, ReadsBackInto, Accepted}
 use Rattle.image.specs.Laws.{AllFit, Proper}
 use Rattle.image.proofs.Cases.{ok-back, ok-err}
 use Rattle.image.proofs.Back.{determined, reads-back, writes-back}
@@ -75,7 +75,7 @@ all-fit-more [] e f h = (h, tt)
 all-fit-more (x ∷ es) e f h = (f .0, all-fit-more es e (f .1) h)
 
 -- an empty store means what clearing leaves
-pub empty-is : (m : StoreState) → Sound m → isEmpty m ≡ true → m ≡ cleared
+pub empty-is : EmptyIsCleared
 empty-is m s e =
     let p = and-parts _ _ e in
     let q = and-parts _ _ (p .1) in
@@ -88,7 +88,7 @@ empty-is m s e =
 
 -- what reading into a store says of an image, and of accepted bytes
 pub read-back : (before : StoreState) (bs : List ℕ) (r : Result (Unit {0}) ImageFault) (after : StoreState) → ReadInto before bs r after
-    → (m : StoreState) → Proper (ballotOf m) (durableOf m) → bs ≡ imageOf m → isEmpty before ≡ true → (r ≡ Ok tt) × (after ≡ durablePart m)
+    → ReadsBackInto before bs r after
 read-back before bs r after x m p e h =
     let y = x .empty h in
     let whole : Result (Ballot × List Entry) ImageFault = Ok (ballotOf m, durableOf m) in
@@ -96,7 +96,7 @@ read-back before bs r after x m p e h =
     (y .2 ∙ ap endedBy d, y .3 ∙ ap (leftBy before) d)
 
 abbrev Same : List ℕ → StoreState → Type 0
-Same bs m = (bs ≡ imageOf m) × Proper (ballotOf m) (durableOf m)
+Same bs m = (bs ≡ imageOf m) × Writable m
 
 same : (bs : List ℕ) (b : Ballot) (es : List Entry) → ImageRead bs (Ok (b, es)) → Same bs (loaded b es)
 same bs b es x = subst (λ l. (bs ≡ image b l) × Proper b l) (sym (take-all (length es) es (omega arith))) (writes-back bs b es x)
@@ -107,7 +107,7 @@ accepted-from before after bs r (Ok p) x e l o = subst (Same bs) (sym l) (same b
 accepted-from before after bs r (Err f) x e l o = absurd (ok-err (sym o ∙ e))
 
 pub accepted : (before : StoreState) (bs : List ℕ) (r : Result (Unit {0}) ImageFault) (after : StoreState) → ReadInto before bs r after
-    → r ≡ Ok tt → (bs ≡ imageOf after) × Proper (ballotOf after) (durableOf after)
+    → Accepted bs r after
 accepted before bs r after x o =
     elim (cases-bool (isEmpty before)) [
       | inl h ↦ let y = x .empty h in accepted-from before after bs r (y .0) (y .1) (y .2) (y .3) o

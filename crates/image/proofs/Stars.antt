@@ -4,20 +4,18 @@ use mathlib.Core.Logic.{inl}
 use mathlib.Core.List.{[], append-nil}
 use native.Mathlib.Omega.{arith}
 use Rattle.std.proofs.shelf.Tests.{le-leb, and-from}
-use Rattle.std.specs.declared.result.Result.the-variants.{Ok, Err}
+use Rattle.std.specs.declared.result.Result.the-variants.{Ok}
 use Rattle.record.specs.declared.kinds.Record.the-variants.{Opening}
 use Rattle.record.specs.declared.fault.RecordFault.the-variants.{Field}
 use Rattle.record.specs.Format.{encode, faultAt}
 use Rattle.image.specs.declared.fault.ImageFault.the-variants.{InRecord}
 use Rattle.image.specs.Images.{ImageRead, wrong-first}
 use Rattle.image.specs.Starred.{Refuses, Starred}
-use Rattle.image.proofs.Back.{determined, reads-back}
+use Rattle.image.proofs.Back.{reads-back}
 
 empty : Refuses [] 21 0
 unfolding faultAt
-empty a r =
-    let e = InRecord (Field (record { offset = 0 })) in
-    (e, determined [] a (Err e) r (wrong-first e (inl (Field (record { offset = 0 }), refl, refl)) refl), refl, refl)
+empty = (InRecord (Field (record { offset = 0 })), wrong-first _ (inl (_, refl, refl)) refl, refl, refl)
 
 pub starred : Starred
 starred = record {

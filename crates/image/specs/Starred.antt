@@ -2,9 +2,7 @@
 use mathlib.Core.Path.{_≡_}
 use mathlib.Core.List.{List, []}
 use Prim.Native.Nat.{ℕ, _≤_}
-use Rattle.std.specs.declared.result.Result.{Result}
 use Rattle.std.specs.declared.result.Result.the-variants.{Ok, Err}
-use Rattle.record.specs.declared.entry.Entry.{Entry}
 use Rattle.record.specs.declared.kinds.Ballot.{Ballot}
 use Rattle.record.specs.declared.kinds.Record.the-variants.{Opening}
 use Rattle.record.specs.Format.{encode}
@@ -12,10 +10,9 @@ use Rattle.image.specs.declared.fault.ImageFault.{ImageFault}
 use Rattle.image.specs.Faults.{numberOf, offsetOf}
 use Rattle.image.specs.Images.{ImageRead}
 
--- whatever the answer is, it is a fault of this number at this offset
+-- the answer is a fault of this number at this offset
 abbrev pub Refuses : List ℕ → (number offset : ℕ) → Type 0
-Refuses bs n off =
-    (a : Result (Ballot × List Entry) ImageFault) → ImageRead bs a → (e : ImageFault) × (a ≡ Err e) × (numberOf e ≡ n) × (offsetOf e ≡ off)
+Refuses bs n off = (e : ImageFault) × ImageRead bs (Err e) × (numberOf e ≡ n) × (offsetOf e ≡ off)
 
 pub record Starred : Type 0 where
   -- an empty image gets 21 at 0

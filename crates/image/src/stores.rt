@@ -3,13 +3,11 @@ ghost use mathlib.Core.Path.{_≡_};
 ghost use mathlib.Core.Bool.{true};
 ghost use lib.ListN.{length};
 ghost use Rattle.std.specs.Results.{isOk};
-ghost use Rattle.std.specs.declared.result.Result.the-variants.{Ok};
 ghost use Rattle.record.specs.Format.{BallotFits};
-ghost use Rattle.store.specs.Stores.{StoreState, cleared};
+ghost use Rattle.store.specs.Stores.{cleared};
 ghost use Rattle.image.specs.Images.{held};
-ghost use Rattle.image.specs.Writing.{writeAnswer, writeAfter};
-ghost use Rattle.image.specs.Stores.{ballotOf, durableOf, imageOf, isEmpty, loaded, durablePart, ReadInto};
-ghost use Rattle.image.specs.Laws.{AllFit, Proper};
+ghost use Rattle.image.specs.Stores.{ballotOf, durableOf, imageAnswer, imageAfter, Writable, isEmpty, loaded, ReadInto, ReadsBackInto, Accepted};
+ghost use Rattle.image.specs.Laws.{AllFit};
 use crate::contents::Contents;
 use crate::fault::ImageFault;
 use crate::fault::WriteFault;
@@ -37,9 +35,9 @@ fn durable_contents<S: Store>(store: &S) -> Contents
 
 // Writes the image of a store at the front of the buffer, and tells its length; the bytes behind it stay.
 pub fn write<S: Store>(store: &S, buffer: &mut [u8]) -> Result<usize, WriteFault>
-    ensures answer { λ r. ⌜ r ≡ writeAnswer (ballotOf (meaning (now (store .entry)))) (durableOf (meaning (now (store .entry)))) (length (now (buffer .entry))) ⌝ }
-    ensures after { λ _. ⌜ now (buffer .exit) ≡ writeAfter (ballotOf (meaning (now (store .entry)))) (durableOf (meaning (now (store .entry)))) (now (buffer .entry)) ⌝ }
-    ensures proper { λ r. ⌜ (isOk r ≡ true → Proper (ballotOf (meaning (now (store .entry)))) (durableOf (meaning (now (store .entry))))) ⌝ }
+    ensures answer { λ r. ⌜ r ≡ imageAnswer (meaning (now (store .entry))) (length (now (buffer .entry))) ⌝ }
+    ensures after { λ _. ⌜ now (buffer .exit) ≡ imageAfter (meaning (now (store .entry))) (now (buffer .entry)) ⌝ }
+    ensures writable { λ r. ⌜ (isOk r ≡ true → Writable (meaning (now (store .entry)))) ⌝ }
 {
     durable_contents(store).write(buffer)
 }
@@ -65,8 +63,8 @@ fn load<S: Store>(store: &mut S, contents: &Contents)
 // Reads an image into a store, every entry durable. The whole image is checked before the store is written to.
 pub fn read<S: Store>(store: &mut S, bytes: &[u8]) -> Result<(), ImageFault>
     ensures answer { λ r. ⌜ ReadInto (meaning (now (store .entry))) (now (bytes .entry)) r (meaning (now (store .exit))) ⌝ }
-    ensures back { λ r. ⌜ ((m : StoreState) → Proper (ballotOf m) (durableOf m) → now (bytes .entry) ≡ imageOf m → isEmpty (meaning (now (store .entry))) ≡ true → (r ≡ Ok tt) × (meaning (now (store .exit)) ≡ durablePart m)) ⌝ }
-    ensures accepted { λ r. ⌜ (r ≡ Ok tt → (now (bytes .entry) ≡ imageOf (meaning (now (store .exit)))) × Proper (ballotOf (meaning (now (store .exit)))) (durableOf (meaning (now (store .exit))))) ⌝ }
+    ensures back { λ r. ⌜ ReadsBackInto (meaning (now (store .entry))) (now (bytes .entry)) r (meaning (now (store .exit))) ⌝ }
+    ensures accepted { λ r. ⌜ (Accepted (now (bytes .entry)) r (meaning (now (store .exit)))) ⌝ }
 {
     if !is_empty(store) {
         return Err(ImageFault::NotEmpty);

@@ -94,7 +94,10 @@ fn read_all(rt: &LibcRuntime, bench: &mut Bench, bytes: &[u8]) -> io::Result<()>
     let second = read_fresh(&mut bench.bytes, bytes);
     let third = read_fresh(&mut bench.buffered, bytes);
     let told = same_answer(first, second) && same_answer(first, third);
-    if !told || !same_store(&bench.record, &bench.bytes) || !same_store(&bench.record, &bench.buffered) {
+    if !told
+        || !same_store(&bench.record, &bench.bytes)
+        || !same_store(&bench.record, &bench.buffered)
+    {
         return println!(rt, "the stores differ");
     }
     match first {
@@ -179,7 +182,12 @@ fn load(rt: &LibcRuntime, bench: &mut Bench, text: &str) -> io::Result<()> {
 }
 
 // The image last written, cut to a length and with one byte replaced.
-fn damaged(rt: &LibcRuntime, bench: &mut Bench, length: usize, change: Option<(u32, u8)>) -> io::Result<()> {
+fn damaged(
+    rt: &LibcRuntime,
+    bench: &mut Bench,
+    length: usize,
+    change: Option<(u32, u8)>,
+) -> io::Result<()> {
     let mut bytes = bench.written.clone()?;
     bytes.truncate(length);
     if let Some((at, value)) = change {
@@ -223,16 +231,20 @@ fn step(rt: &LibcRuntime, bench: &mut Bench, command: Command) -> io::Result<()>
     }
 }
 
+fn on_line(rt: &LibcRuntime, bench: &mut Bench, line: &[u8]) -> io::Result<()> {
+    let command = match std::str::from_utf8(line) {
+        Ok(text) => command_in(text),
+        Err(_) => Command::Unknown,
+    };
+    step(rt, bench, command)
+}
+
 fn main(rt: LibcRuntime) -> io::Result<()> {
     let heap = rt.alloc();
     let mut bench = open(heap)?;
     for line in BufReader::new(rt.stdin()).split(heap, b'\n') {
         let line = line?;
-        let command = match std::str::from_utf8(line.as_slice()) {
-            Ok(text) => command_in(text),
-            Err(_) => Command::Unknown,
-        };
-        step(&rt, &mut bench, command)?;
+        on_line(&rt, &mut bench, line.as_slice())?;
     }
     Ok(())
 }

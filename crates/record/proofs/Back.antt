@@ -18,8 +18,8 @@ use Rattle.record.specs.declared.kinds.Ballot.{Ballot}
 use Rattle.record.specs.declared.kinds.Record.{Record}
 use Rattle.record.specs.declared.kinds.Record.the-variants.{Opening, Logged}
 use Rattle.record.specs.declared.fault.RecordFault.{RecordFault}
-use Rattle.record.specs.Format.{two, four, word, ballotFields, entryFields, encode, faultAt, BallotFits, EntryFits, Fitting, RecordRead}
-use Rattle.record.specs.Laws.{Unambiguous, NeverRefused, Fits, Determined}
+use Rattle.record.specs.Format.{two, four, word, ballotFields, entryFields, encode, faultAt, BallotFits, EntryFits, RecordRead, ReadsBack}
+use Rattle.record.specs.Laws.{Unambiguous, NeverRefused, AnswerFits, Determined}
 use Rattle.record.proofs.Bytes.{of-two, of-four, pairAt, quadAt}
 use Rattle.record.proofs.Cuts.{enough}
 
@@ -90,5 +90,5 @@ determined bs off (Err d) (Err e) hp hq ep eq =
     ap Err s
 
 -- an answer to bytes that begin with a record is that record and the rest
-pub reads-back : (bs : List ℕ) (off : ℕ) (r : Result (Record × List ℕ) RecordFault) → Fits r → RecordRead bs off r → (x : Record) (rest : List ℕ) → Fitting x → bs ≡ encode x ++ rest → r ≡ Ok (x, rest)
+pub reads-back : (bs : List ℕ) (off : ℕ) (r : Result (Record × List ℕ) RecordFault) → AnswerFits r → RecordRead bs off r → ReadsBack bs r
 reads-back bs off r h a x rest hx e = determined bs off r (Ok (x, rest)) h hx a e

@@ -79,6 +79,10 @@ abbrev pub RecordRead : List ℕ → ℕ → Result (Record × List ℕ) RecordF
 RecordRead bs off (Ok p) = bs ≡ encode (p .0) ++ p .1
 RecordRead bs off (Err e) = faultAt off bs ≡ Some e
 
+-- Bytes that begin with a record are answered with that record and the rest.
+abbrev pub ReadsBack : List ℕ → Result (Record × List ℕ) RecordFault → Type 0
+ReadsBack bs r = (x : Record) (rest : List ℕ) → Fitting x → bs ≡ encode x ++ rest → r ≡ Ok (x, rest)
+
 -- the code's answer, with the bytes that its rest points to
 abbrev pub answered : Result (Record × RefT (List ℕ)) RecordFault → Result (Record × List ℕ) RecordFault
 answered (Ok p) = Ok (p .0, p .1 .now)

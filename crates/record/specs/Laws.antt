@@ -18,11 +18,11 @@ abbrev pub NeverRefused : Type 0
 NeverRefused = (r : Record) (rest : List ℕ) (off : ℕ) → faultAt off (encode r ++ rest) ≡ None
 
 -- any bytes have one answer
-abbrev pub Fits : Result (Record × List ℕ) RecordFault → Type 0
-Fits (Ok p) = Fitting (p .0)
-Fits (Err e) = Unit {0}
+abbrev pub AnswerFits : Result (Record × List ℕ) RecordFault → Type 0
+AnswerFits (Ok p) = Fitting (p .0)
+AnswerFits (Err e) = Unit {0}
 
 abbrev pub Determined : Type 0
 Determined =
-    (bs : List ℕ) (off : ℕ) (r s : Result (Record × List ℕ) RecordFault) → Fits r → Fits s → RecordRead bs off r → RecordRead bs off s
+    (bs : List ℕ) (off : ℕ) (r s : Result (Record × List ℕ) RecordFault) → AnswerFits r → AnswerFits s → RecordRead bs off r → RecordRead bs off s
     → r ≡ s

@@ -1,12 +1,8 @@
 // Reading a record: its four head bytes, as many bytes of fields as its length says, and what follows.
 ghost use mathlib.Core.Path.{_≡_};
-ghost use mathlib.Core.List.{List, _++_};
-ghost use Prim.Native.Nat.{ℕ};
 ghost use lib.ListN.{length};
 ghost use Rattle.std.specs.Options.{Cases as BySome};
-ghost use Rattle.std.specs.declared.result.Result.the-variants.{Ok};
-ghost use Rattle.record.specs.declared.kinds.Record.{Record as Kept};
-ghost use Rattle.record.specs.Format.{editFields, encode, RecordRead, answered, Fitting};
+ghost use Rattle.record.specs.Format.{editFields, RecordRead, ReadsBack, answered};
 ghost use Rattle.record.specs.Parts.{HeadTaken, FieldsTaken, BallotRead, EntryRead};
 use crate::entry::Entry;
 use crate::fault::FieldFault;
@@ -108,7 +104,7 @@ fn read_entry(fields: &[u8], offset: usize) -> Result<Entry, RecordFault>
 // The record at the front of the bytes, and the bytes behind it. `offset` is where the record begins in the whole.
 pub fn read_record(bytes: &[u8], offset: usize) -> Result<(Record, &[u8]), RecordFault>
     ensures answer { λ r. ⌜ RecordRead (now (bytes .entry)) offset (answered r) ⌝ }
-    ensures back { λ r. ⌜ ((x : Kept) (rest : List ℕ) → Fitting x → now (bytes .entry) ≡ encode x ++ rest → answered r ≡ Ok (x, rest)) ⌝ }
+    ensures back { λ r. ⌜ ReadsBack (now (bytes .entry)) (answered r) ⌝ }
 {
     let Head { length, kind, rest } = take_head(bytes, offset)?;
     let (fields, rest) = take_fields(rest, length, offset)?;

@@ -1,0 +1,5 @@
+pub mod Decoding
+pub mod Writing
+pub mod Meaning
+pub mod Reading
+pub mod Steps
