@@ -4,7 +4,7 @@ use Prim.Native.Nat.{ℕ}
 use native.Mathlib.Omega.{arith}
 use lib.ListN.{drop}
 use Rattle.std.specs.declared.result.Result.the-variants.{Ok}
-use Rattle.record.specs.declared.kinds.Record.the-variants.{Opening, Logged}
+use Rattle.record.specs.declared.kinds.Record.the-variants.{Opening}
 use Rattle.record.specs.Format.{answered}
 use Rattle.record.proofs.Bytes.{Bytes}
 use Rattle.byte_store.specs.Bytes.{openingPart, ballotIn}

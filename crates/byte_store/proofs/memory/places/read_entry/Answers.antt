@@ -4,7 +4,7 @@ use mathlib.Core.List.{[]}
 use Prim.Native.Nat.{ℕ, _+_, _-_}
 use native.Mathlib.Omega.{arith}
 use Rattle.std.specs.declared.result.Result.the-variants.{Ok}
-use Rattle.record.specs.declared.kinds.Record.the-variants.{Opening, Logged}
+use Rattle.record.specs.declared.kinds.Record.the-variants.{Logged}
 use Rattle.record.specs.Format.{answered}
 use Rattle.record.proofs.Bytes.{Bytes}
 use Rattle.byte_store.specs.Bytes.{placePart, entryIn}

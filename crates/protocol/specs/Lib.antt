@@ -1,0 +1,9 @@
+pub mod ServerIds
+pub mod State
+pub mod Elections
+pub mod AppendEntries
+pub mod Rules
+pub mod Calls
+pub mod Runs
+pub mod Promises
+pub mod Starred
