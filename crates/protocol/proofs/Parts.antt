@@ -1,7 +1,7 @@
 -- A delivery in parts: what a message makes of the core, with its tests outside.
 use mathlib.Core.Bool.{Bool, true, false, cond, _&&_}
 use mathlib.Core.List.{[], _∷_, _++_}
-use Prim.Native.Nat.{ℕ, suc, min}
+use Prim.Native.Nat.{ℕ, suc}
 use lib.Dec.{eqb, ltb, leb}
 use lib.ListN.{length, take}
 use Rattle.std.specs.declared.option.Option.{Option}
@@ -10,7 +10,7 @@ use Rattle.record.specs.declared.entry.Entry.{Entry}
 use Rattle.protocol.specs.ServerIds.{ServerId, put}
 use Rattle.protocol.specs.State.{Log, termAt, isLeader, Body, VoteRequest, VoteReply, AppendRequest, AppendReply, Core, change, posted}
 use Rattle.protocol.specs.Elections.{taken, grants, votesFor, counting, counts, twoOf, wins}
-use Rattle.protocol.specs.AppendEntries.{follows, reaches, accepts, gotYes, gotNo, raises}
+use Rattle.protocol.specs.AppendEntries.{follows, reaches, accepts, appliedWithin, gotYes, gotNo, raises}
 
 abbrev pub askedIn : Core → ServerId → ServerId → ℕ → ℕ × ℕ → Core
 askedIn w from to T pair =
@@ -38,7 +38,7 @@ tookIn w from to T p k (Some e) =
     (cond (eqb (termAt (w .server to .log) p) (e .term))
     (keptIn w from to T (w .server to .log) (w .server to .applied) (suc p) k)
     (cond (ltb p (w .server to .commit)) (change w to (follows (w .server to)))
-    (keptIn w from to T (take p (w .server to .log) ++ e ∷ []) (min (w .server to .applied) p) (suc p) k)))
+    (keptIn w from to T (take p (w .server to .log) ++ e ∷ []) (appliedWithin p (w .server to)) (suc p) k)))
     (keptIn w from to T (w .server to .log ++ e ∷ []) (w .server to .applied) (suc p) k))
 
 abbrev pub appendedIn : Core → ServerId → ServerId → ℕ → ℕ → ℕ → ℕ → Option Entry → Core

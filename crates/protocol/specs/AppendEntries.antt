@@ -8,7 +8,7 @@ use Rattle.std.specs.declared.option.Option.{Option}
 use Rattle.std.specs.declared.option.Option.the-variants.{Some, None}
 use Rattle.record.specs.declared.entry.Entry.{Entry}
 use Rattle.protocol.specs.ServerIds.{ServerId, put}
-use Rattle.protocol.specs.State.{Log, at, termAt, tip, follower, Server, isLeader, AppendRequest, AppendReply, Message}
+use Rattle.protocol.specs.State.{Log, at, termAt, tip, follower, Server, isLeader, AppendRequest, AppendReply, Message, setLog, setRole, setPeers, setCommit, setApplied}
 use Rattle.protocol.specs.Elections.{twoOf}
 
 -- The append request that a leader sends to r: the entry before next, its commit, and entry next if it holds it.
@@ -23,7 +23,7 @@ appendRequest j s r = record {
 
 -- The receiver, in the request's term and no leader, is a follower from here on.
 abbrev pub follows : Server → Server
-follows s = record { up = s .up; term = s .term; vote = s .vote; log = s .log; durable = s .durable; role = follower; voters = s .voters; next = s .next; match = s .match; commit = s .commit; applied = s .applied }
+follows s = setRole follower s
 
 -- it holds the first p entries, the last of them of term t
 abbrev pub reaches : Log → ℕ → ℕ → Bool
@@ -31,14 +31,18 @@ reaches l p t = leb p (length l) && eqb (tip l p) t
 
 -- the log is l, all of it synced, and a entries are applied
 abbrev pub holds : Log → ℕ → Server → Server
-holds l a s = record { up = s .up; term = s .term; vote = s .vote; log = l; durable = length l; role = follower; voters = s .voters; next = s .next; match = s .match; commit = s .commit; applied = a }
+holds l a s = setRole follower (setLog l (length l) (setApplied a s))
 
 abbrev pub commits : ℕ → Server → Server
-commits n s = record { up = s .up; term = s .term; vote = s .vote; log = s .log; durable = s .durable; role = s .role; voters = s .voters; next = s .next; match = s .match; commit = n; applied = s .applied }
+commits n s = setCommit n s
 
 -- then commit rises to the smaller of the sender's commit k and m, through which the logs agree
 abbrev pub accepts : Log → ℕ → ℕ → ℕ → Server → Server
 accepts l a m k s = commits (max (s .commit) (min k m)) (holds l a s)
+
+-- what is still applied once open edits from entry p + 1 on are undone
+abbrev pub appliedWithin : ℕ → Server → ℕ
+appliedWithin p s = min (s .applied) p
 
 -- One entry e with the number p + 1: past 64 it is dropped unanswered; a held one of its term stays; a held one of another term
 -- is dropped unanswered at or below commit, and above it open edits from there on are undone and the log is cut; one not held is appended.
@@ -49,7 +53,7 @@ accepted p k e s =
     (cond (eqb (termAt (s .log) p) (e .term))
     (accepts (s .log) (s .applied) (suc p) k s)
     (cond (ltb p (s .commit)) (follows s)
-    (accepts (take p (s .log) ++ e ∷ []) (min (s .applied) p) (suc p) k s)))
+    (accepts (take p (s .log) ++ e ∷ []) (appliedWithin p s) (suc p) k s)))
     (accepts (s .log ++ e ∷ []) (s .applied) (suc p) k s))
 
 -- the m of the yes, if there is one
@@ -86,7 +90,7 @@ appendReply from to T p t e s =
 
 -- A reply counts at a leader of that term. A yes raises match to m and next to at least match + 1; a no lowers next by one, to no less than match + 1.
 abbrev pub notes : ServerId → ℕ → ℕ → Server → Server
-notes r n m s = record { up = s .up; term = s .term; vote = s .vote; log = s .log; durable = s .durable; role = s .role; voters = s .voters; next = put (s .next) r n; match = put (s .match) r m; commit = s .commit; applied = s .applied }
+notes r n m s = setPeers (put (s .next) r n) (put (s .match) r m) s
 
 abbrev pub gotYes : ServerId → ℕ → Server → Server
 gotYes r m s = notes r (max (s .next r) (suc (max (s .match r) m))) (max (s .match r) m) s

@@ -4,11 +4,11 @@ use Prim.Native.Nat.{ℕ, suc, min}
 use lib.Dec.{eqb, ltb, leb}
 use lib.ListN.{length}
 use Rattle.protocol.specs.ServerIds.{ServerId, one, two, three, numberOf, same, put}
-use Rattle.protocol.specs.State.{Log, lastTerm, follower, candidate, leader, Server, isLeader, isCandidate, VoteRequest, VoteReply, Message}
+use Rattle.protocol.specs.State.{Log, lastTerm, follower, candidate, leader, Server, isLeader, isCandidate, VoteRequest, VoteReply, Message, setBallot, setRole, setVoters, setPeers, setApplied}
 
 -- A higher term is taken: applied falls to commit if it was above, by undoing; there is no vote in it yet, and the server is a follower.
 abbrev pub taken : ℕ → Server → Server
-taken T s = record { up = s .up; term = T; vote = 0; log = s .log; durable = s .durable; role = follower; voters = s .voters; next = s .next; match = s .match; commit = s .commit; applied = min (s .applied) (s .commit) }
+taken T s = setBallot T 0 (setRole follower (setApplied (min (s .applied) (s .commit)) s))
 
 -- what a receiver does first
 abbrev pub caughtUp : ℕ → Server → Server
@@ -20,7 +20,7 @@ lastOfTerms = 1_000_000
 
 -- A campaign takes the next term, votes for itself, and is a candidate with its own vote.
 abbrev pub stands : ServerId → Server → Server
-stands j s = record { up = s .up; term = suc (s .term); vote = numberOf j; log = s .log; durable = s .durable; role = candidate; voters = λ k. same k j; next = s .next; match = s .match; commit = s .commit; applied = min (s .applied) (s .commit) }
+stands j s = setBallot (suc (s .term)) (numberOf j) (setRole candidate (setVoters (λ k. same k j) (taken (suc (s .term)) s)))
 
 abbrev pub mayCampaign : Server → Bool
 mayCampaign s = s .up && (not (isLeader (s .role)) && ltb (s .term) lastOfTerms)
@@ -48,7 +48,7 @@ grants s from T pair = eqb T (s .term) && (mayVote (s .vote) from && notBelow pa
 
 -- a yes is recorded as the vote
 abbrev pub votesFor : ServerId → Server → Server
-votesFor c s = record { up = s .up; term = s .term; vote = numberOf c; log = s .log; durable = s .durable; role = s .role; voters = s .voters; next = s .next; match = s .match; commit = s .commit; applied = s .applied }
+votesFor c s = setBallot (s .term) (numberOf c) s
 
 abbrev pub hearsVoteRequest : Server → ServerId → ℕ → ℕ × ℕ → Server
 hearsVoteRequest s from T pair = cond (grants s from T pair) (votesFor from s) s
@@ -63,14 +63,14 @@ abbrev pub counting : Server → ℕ → Bool → Bool
 counting s T ok = ok && (eqb T (s .term) && isCandidate (s .role))
 
 abbrev pub counts : ServerId → Server → Server
-counts v s = record { up = s .up; term = s .term; vote = s .vote; log = s .log; durable = s .durable; role = s .role; voters = put (s .voters) v true; next = s .next; match = s .match; commit = s .commit; applied = s .applied }
+counts v s = setVoters (put (s .voters) v true) s
 
 abbrev pub twoOf : (ServerId → Bool) → Bool
 twoOf f = (f one && f two) || ((f one && f three) || (f two && f three))
 
 -- With two voters it is the leader, each next behind its log and each match 0.
 abbrev pub wins : Server → Server
-wins s = record { up = s .up; term = s .term; vote = s .vote; log = s .log; durable = s .durable; role = leader; voters = s .voters; next = λ k. suc (length (s .log)); match = λ k. 0; commit = s .commit; applied = s .applied }
+wins s = setRole leader (setPeers (λ k. suc (length (s .log))) (λ k. 0) s)
 
 abbrev pub tallied : ServerId → Server → Server
 tallied from s = cond (twoOf (put (s .voters) from true)) (wins (counts from s)) (counts from s)

@@ -12,7 +12,7 @@ use Rattle.machine.specs.States.{applied, settled, undoneTimes}
 use Rattle.protocol.specs.declared.Standing.{Standing}
 use Rattle.protocol.specs.declared.Standing.the-variants.{Kept, Gone, Open, Unknown}
 use Rattle.protocol.specs.ServerIds.{ServerId}
-use Rattle.protocol.specs.State.{at, tip, follower, Server, isLeader, Body, VoteRequest, VoteReply, AppendRequest, AppendReply, Message, Machine}
+use Rattle.protocol.specs.State.{at, tip, follower, Server, isLeader, Body, VoteRequest, VoteReply, AppendRequest, AppendReply, Message, Machine, setUp, setBallot, setLog, setRole, setCommit, setApplied}
 use Rattle.protocol.specs.Elections.{hearsVoteRequest, voteReply, hearsVoteReply}
 use Rattle.protocol.specs.AppendEntries.{hearsAppend, appendReply, hearsReply, raises}
 
@@ -31,7 +31,7 @@ replies s from to T (AppendReply ok m) = None
 
 -- An entry more, volatile. A leader with fewer than 64 may take it.
 abbrev pub gains : Entry → Server → Server
-gains e s = record { up = s .up; term = s .term; vote = s .vote; log = s .log ++ e ∷ []; durable = s .durable; role = s .role; voters = s .voters; next = s .next; match = s .match; commit = s .commit; applied = s .applied }
+gains e s = setLog (s .log ++ e ∷ []) (s .durable) s
 
 abbrev pub mayPropose : Server → Bool
 mayPropose s = s .up && (isLeader (s .role) && ltb (length (s .log)) 64)
@@ -41,7 +41,7 @@ proposes e s = cond (mayPropose s) (gains (record { term = s .term; edit = e }) 
 
 -- Syncing makes every entry durable; a leader then raises its commit.
 abbrev pub syncs : Server → Server
-syncs s = record { up = s .up; term = s .term; vote = s .vote; log = s .log; durable = length (s .log); role = s .role; voters = s .voters; next = s .next; match = s .match; commit = s .commit; applied = s .applied }
+syncs s = setLog (s .log) (length (s .log)) s
 
 abbrev pub firms : ServerId → Server → Server
 firms j s = cond (s .up) (cond (isLeader (s .role)) (raises j (syncs s)) (syncs s)) s
@@ -49,7 +49,7 @@ firms j s = cond (s .up) (cond (isLeader (s .role)) (raises j (syncs s)) (syncs 
 -- The next entry is applied: one below commit; or openly, the next one held, where commit is 1 or more, the entry at commit has
 -- the own term and fewer than sixteen are open.
 abbrev pub applies : Server → Server
-applies s = record { up = s .up; term = s .term; vote = s .vote; log = s .log; durable = s .durable; role = s .role; voters = s .voters; next = s .next; match = s .match; commit = s .commit; applied = suc (s .applied) }
+applies s = setApplied (suc (s .applied)) s
 
 abbrev pub openly : Server → Bool
 openly s = ltb 0 (s .commit) && (eqb (tip (s .log) (s .commit)) (s .term) && ltb (s .applied) (length (s .log)))
@@ -63,9 +63,9 @@ mayApply s = ltb (s .applied) (s .commit) || (openly s && fewOpen s)
 abbrev pub appliesNext : Server → Server
 appliesNext s = cond (s .up && mayApply s) (applies s) s
 
--- An outage: down, a follower, counts 0; of the log the first c entries are left, all durable.
+-- An outage: down, a follower, counts 0. The store keeps term, vote and the first c entries, all of them durable.
 abbrev pub stops : ℕ → Server → Server
-stops c s = record { up = false; term = s .term; vote = s .vote; log = take c (s .log); durable = c; role = follower; voters = s .voters; next = s .next; match = s .match; commit = 0; applied = 0 }
+stops c s = setUp false (setBallot (s .term) (s .vote) (setLog (take c (s .log)) c (setRole follower (setCommit 0 (setApplied 0 s)))))
 
 abbrev pub fails : ℕ → Server → Server
 fails c s = cond (s .up) (stops c s) s
@@ -75,7 +75,7 @@ abbrev pub mayKeep : ℕ → Server → Bool
 mayKeep c s = leb (s .durable) c && leb c (length (s .log))
 
 abbrev pub starts : Server → Server
-starts s = record { up = true; term = s .term; vote = s .vote; log = s .log; durable = s .durable; role = s .role; voters = s .voters; next = s .next; match = s .match; commit = s .commit; applied = s .applied }
+starts s = setUp true s
 
 abbrev pub restarts : Server → Server
 restarts s = cond (s .up) s (starts s)
@@ -86,12 +86,13 @@ standingOf s n t =
     cond (ltb 0 n && leb n (s .commit)) (cond (eqb (tip (s .log) n) t) Kept Gone)
     (cond (ltb 0 n && (leb n (length (s .log)) && eqb (tip (s .log) n) t)) Open Unknown)
 
--- The machine beside a server that goes from s to s′, by their differences. One that stops is reset; what is applied no more is undone;
--- what is newly applied adds a state; what is newly both applied and committed is settled. Where nothing differs, nothing moves.
+-- the oldest states dropped, one after the other
 abbrev pub settledTimes : {X : Type 0} → ℕ → List X → List X
 settledTimes zero xs = xs
 settledTimes (suc k) xs = settled (settledTimes k xs)
 
+-- The machine beside a server that goes from s to s′, by their differences. One that stops is reset; what is applied no more is undone;
+-- what is newly applied adds a state; what is newly both applied and committed is settled. Where nothing differs, nothing moves.
 abbrev pub moved : {X : Type 0} → Machine X → Server → Server → List X → List X
 moved M s s′ ms =
     cond (s .up && not (s′ .up)) (M .opening ∷ [])

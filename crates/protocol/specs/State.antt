@@ -56,6 +56,31 @@ pub record Server : Type 0 where
   pub commit : ℕ
   pub applied : ℕ
 
+-- A server with some part of it replaced.
+abbrev pub setUp : Bool → Server → Server
+setUp b s = record { up = b; term = s .term; vote = s .vote; log = s .log; durable = s .durable; role = s .role; voters = s .voters; next = s .next; match = s .match; commit = s .commit; applied = s .applied }
+
+abbrev pub setBallot : (term vote : ℕ) → Server → Server
+setBallot t v s = record { up = s .up; term = t; vote = v; log = s .log; durable = s .durable; role = s .role; voters = s .voters; next = s .next; match = s .match; commit = s .commit; applied = s .applied }
+
+abbrev pub setLog : Log → (durable : ℕ) → Server → Server
+setLog l d s = record { up = s .up; term = s .term; vote = s .vote; log = l; durable = d; role = s .role; voters = s .voters; next = s .next; match = s .match; commit = s .commit; applied = s .applied }
+
+abbrev pub setRole : Role → Server → Server
+setRole r s = record { up = s .up; term = s .term; vote = s .vote; log = s .log; durable = s .durable; role = r; voters = s .voters; next = s .next; match = s .match; commit = s .commit; applied = s .applied }
+
+abbrev pub setVoters : (ServerId → Bool) → Server → Server
+setVoters f s = record { up = s .up; term = s .term; vote = s .vote; log = s .log; durable = s .durable; role = s .role; voters = f; next = s .next; match = s .match; commit = s .commit; applied = s .applied }
+
+abbrev pub setPeers : (next match : ServerId → ℕ) → Server → Server
+setPeers n m s = record { up = s .up; term = s .term; vote = s .vote; log = s .log; durable = s .durable; role = s .role; voters = s .voters; next = n; match = m; commit = s .commit; applied = s .applied }
+
+abbrev pub setCommit : ℕ → Server → Server
+setCommit n s = record { up = s .up; term = s .term; vote = s .vote; log = s .log; durable = s .durable; role = s .role; voters = s .voters; next = s .next; match = s .match; commit = n; applied = s .applied }
+
+abbrev pub setApplied : ℕ → Server → Server
+setApplied n s = record { up = s .up; term = s .term; vote = s .vote; log = s .log; durable = s .durable; role = s .role; voters = s .voters; next = s .next; match = s .match; commit = s .commit; applied = n }
+
 -- The servers, and the messages on their way in order of posting: all that the protocol speaks of.
 pub record Core : Type 0 where
   pub server : ServerId → Server
