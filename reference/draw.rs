@@ -34,7 +34,7 @@ impl Rng {
         list[self.below(list.len() as u64) as usize]
     }
 
-    fn chance(&mut self, percent: u64) -> bool {
+    pub fn chance(&mut self, percent: u64) -> bool {
         self.below(100) < percent
     }
 }
@@ -158,7 +158,7 @@ pub fn draw(seed: u64, count: u64, out: &mut impl Write) -> io::Result<()> {
     Ok(())
 }
 
-fn draw_edit(rng: &mut Rng, sheet: &Sheet) -> Edit {
+pub fn draw_edit(rng: &mut Rng, sheet: &Sheet) -> Edit {
     match rng.below(100) {
         0..=13 => set_cell(rng),
         14..=31 => grade(rng, sheet),

@@ -7,40 +7,48 @@
 //!     reference stars            checks the worked examples and the machines
 //!     reference images           runs the script of stores and images on the standard input
 //!     reference draw-images SEED prints a script for images
+//!     reference table-run        runs a cluster by the calls on the standard input
+//!     reference watch            the same, and checks along the run what every run promises
+//!     reference draw-calls SEED COUNT
+//!                                prints a list of calls for table-run
+//!     reference compare SEED COUNT PROGRAM
+//!                                draws that many lists of calls, compares what the program
+//!                                prints for each with what table-run prints, and watches it
 
+mod cluster;
+mod compare;
 mod draw;
+mod draw_calls;
 mod draw_images;
 mod images;
 mod rules;
 mod stars;
+mod table_run;
+mod watch;
 
 use images::{Entry, Fault, Reader, Store, ENTRY, HEAD, OPENING};
 use rules::{Edit, Machine, Refusal, ReplayMachine, Sheet, UndoMachine, ROWS, SIZES};
 use std::io::{self, BufWriter, Read, Write};
 use std::process::ExitCode;
 
+/// How many bytes are printed at once.
+const OUT_BYTES: usize = 1 << 16;
+
 fn main() -> ExitCode {
     let args: Vec<String> = std::env::args().skip(1).collect();
     let args: Vec<&str> = args.iter().map(String::as_str).collect();
-    let mut out = BufWriter::new(io::stdout().lock());
-    let done = match args[..] {
-        ["waistband"] => input().and_then(|text| waistband(&text, &mut out)),
-        ["edit_cases"] => input().and_then(|text| edit_cases(&text, &mut out)),
-        ["count"] => input().and_then(|text| draw::count(&text, &mut out)),
-        ["stars"] => stars::check(&mut out),
-        ["images"] => input().and_then(|text| run_images(&text, &mut out)),
-        ["draw-images", seed] => match seed.parse() {
-            Ok(seed) => draw_images::draw(seed, &mut out),
-            Err(_) => return usage(),
-        },
-        ["draw", seed, count] => match (seed.parse(), count.parse()) {
-            (Ok(seed), Ok(count)) => draw::draw(seed, count, &mut out),
-            _ => return usage(),
-        },
-        _ => return usage(),
+    let mut out = BufWriter::with_capacity(OUT_BYTES, io::stdout().lock());
+    let Some(done) = run(&args, &mut out) else {
+        eprintln!(
+            "reference waistband | edit_cases | draw SEED COUNT | count | stars | images \
+             | draw-images SEED | table-run | watch | draw-calls SEED COUNT \
+             | compare SEED COUNT PROGRAM"
+        );
+        return ExitCode::FAILURE;
     };
-    match done.and_then(|()| out.flush()) {
-        Ok(()) => ExitCode::SUCCESS,
+    match done.and_then(|good| out.flush().map(|()| good)) {
+        Ok(true) => ExitCode::SUCCESS,
+        Ok(false) => ExitCode::FAILURE,
         Err(error) => {
             eprintln!("{error}");
             ExitCode::FAILURE
@@ -48,12 +56,29 @@ fn main() -> ExitCode {
     }
 }
 
-fn usage() -> ExitCode {
-    eprintln!(
-        "reference waistband | edit_cases | draw SEED COUNT | count | stars | images \
-         | draw-images SEED"
-    );
-    ExitCode::FAILURE
+/// Runs what the arguments ask for and tells whether nothing was found wrong; nothing where
+/// they are not understood.
+fn run(args: &[&str], out: &mut impl Write) -> Option<io::Result<bool>> {
+    let done = match *args {
+        ["watch"] => return Some(input().and_then(|text| watch::watch(&text, out))),
+        ["compare", seed, count, program] => {
+            let (seed, count) = (seed.parse().ok()?, count.parse().ok()?);
+            return Some(compare::compare(seed, count, program, out));
+        }
+        ["table-run"] => input().and_then(|text| table_run::table_run(&text, out)),
+        ["draw-calls", seed, count] => {
+            draw_calls::draw(seed.parse().ok()?, count.parse().ok()?, out)
+        }
+        ["waistband"] => input().and_then(|text| waistband(&text, out)),
+        ["edit_cases"] => input().and_then(|text| edit_cases(&text, out)),
+        ["count"] => input().and_then(|text| draw::count(&text, out)),
+        ["stars"] => stars::check(out),
+        ["images"] => input().and_then(|text| run_images(&text, out)),
+        ["draw-images", seed] => draw_images::draw(seed.parse().ok()?, out),
+        ["draw", seed, count] => draw::draw(seed.parse().ok()?, count.parse().ok()?, out),
+        _ => return None,
+    };
+    Some(done.map(|()| true))
 }
 
 fn input() -> io::Result<Vec<u8>> {

@@ -1,0 +1,11 @@
+use Rattle.command.specs.Grammar.{Word}
+use Rattle.command.proofs.Splits.{none-cut, first-part, word-no-space}
+use Rattle.command.proofs.read.number_first.Needs as need
+
+pub returns-in-Break-first : need.returns-in-Break-first
+returns-in-Break-first c = rw (c .from-residual .ensures) (λ n rest w. none-cut (c .args .text .now) (w .0) rest (c .in-Break-first .ensures tt) (w .1))
+
+pub returns-in-Break-number : need.returns-in-Break-number
+returns-in-Break-number c =
+    let s = c .in-Continue-first .ensures tt in
+    rw (c .from-residual-in-Break-number .ensures) (λ n rest w. c .in-Break-number .ensures tt n (first-part (Word n) (word-no-space n) (c .args .text .now) (c .in-Continue-first .first .now) (c .in-Continue-first .rest .now) rest (s .0) (s .1) w))

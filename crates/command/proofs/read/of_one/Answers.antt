@@ -1,0 +1,6 @@
+use native.Mathlib.Omega.{arith}
+use Rattle.command.proofs.Lines.{no-numbers}
+use Rattle.command.proofs.read.of_one.Needs as need
+
+pub returns-in-Break-first : need.returns-in-Break-first
+returns-in-Break-first c = rw (c .from-residual .ensures) (no-numbers 1 (c .args .name .now) (c .args .rest .now) (λ h. c .in-Break-first .ensures tt) (λ h a b w. omega arith) (λ h x y z w. omega arith) (λ h a e w. omega arith))
