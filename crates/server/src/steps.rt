@@ -63,6 +63,7 @@ pub fn propose<S: Store + Drop>(node: &mut Node<S>, edit: Edit) -> Result<Propos
     ensures says { λ r. ⌜ toldProposed r ≡ proposeAnswer (serverOf (S·Store .meaning) (now (node .entry))) ⌝ }
     ensures after { λ _. ⌜ Goes (S·Store .meaning) (now (node .entry)) (proposes edit) (now (node .exit)) ⌝ }
 {
+    // That the server is down is told before that it is no leader.
     if !node.up {
         return Err(Refusal::ServerDown);
     }
