@@ -8,12 +8,13 @@ use Rattle.protocol.specs.declared.ServerId.{ServerId}
 use Rattle.protocol.specs.declared.Message.{Message}
 use Rattle.protocol.specs.ServerIds.{numbered, put}
 use Rattle.protocol.specs.State.{Server as State, Core, Machine, Cluster as Model, opening, at, change, with}
-use Rattle.protocol.specs.Rules.{settled_times, may_keep_at, moved}
+use Rattle.protocol.specs.Rules.{settled_times, may_keep, moved}
 use Rattle.protocol.specs.Calls.{Call, outage, Answer, refused, answer, after, core_after, Allowed}
 use Rattle.protocol.specs.Runs.{History, Run, following}
 use Rattle.protocol.proofs.Shelf.{put_here, put_there, put_all}
 use Rattle.protocol.proofs.Tickets.{safe, goes_on}
 use Rattle.node.specs.Meaning.{place, of3}
+use Rattle.server.specs.Answers.{may_keep_at}
 use Rattle.cluster.specs.Meaning.{fresh, model}
 use Rattle.cluster.specs.Called.{Called}
 use Rattle.cluster.proofs.Threes.{numbered_some, numbered_none, place_small, of3_set}

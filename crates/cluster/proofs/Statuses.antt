@@ -1,7 +1,8 @@
 -- A server at a glance, from what was read of it.
 use Rattle.std.proofs.Common.{◌≡◌, ℕ, length, sym, refl, ap, ◌∙◌}
-use Rattle.protocol.specs.declared.Status.{Status}
-use Rattle.protocol.specs.State.{Server as State, status_of}
+use Rattle.protocol.specs.State.{Server as State}
+use Rattle.cluster.specs.declared.reads.Status.{Status}
+use Rattle.cluster.specs.Statuses.{status_of}
 
 pub glance : (s t : State) → t ≡ s → (term len durable : ℕ) → term ≡ s.term → len ≡ length s.log → durable ≡ s.durable
     → record { term = term; up = s.up; role = s.role; length = len; durable = durable; commit = s.commit; applied = s.applied } ≡ status_of t

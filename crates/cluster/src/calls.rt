@@ -5,7 +5,7 @@ ghost use Rattle.protocol.specs.State.{opening as openingOf};
 ghost use Rattle.protocol.specs.Calls.{said, done, lost, ticket, keeps};
 ghost use Rattle.protocol.specs.Calls.{campaign as campaignBy, deliver as deliverAt, lose as loseAt, propose as proposeTo, firm as firmAt, send as sendTo, apply as applyAt, outage as outageOf, restart as restartOf};
 ghost use Rattle.server.specs.Turns.{kind_of};
-ghost use Rattle.server.specs.Answers.{told_ticket, kept_by};
+ghost use Rattle.server.specs.Answers.{told_proposed, kept_by};
 ghost use Rattle.cluster.specs.Meaning.{cluster_of};
 ghost use Rattle.cluster.specs.Called.{Calls};
 
@@ -13,7 +13,7 @@ use crate::state::{Cluster, Network};
 use machine::StateMachine;
 use node::ids::{place_of, server_numbered};
 use refusal::Refusal;
-use server::{Server, Ticket};
+use server::{Proposed, Server};
 use sheet::Edit;
 use std::alloc::{AllocError, Global};
 use store::Store;
@@ -91,9 +91,9 @@ impl<S: Store + Drop, M: StateMachine + Drop> Cluster<S, M> {
         Ok(())
     }
 
-    // A leader takes an edit as its next entry, and hands out a ticket for it.
-    pub fn propose(&mut self, server: u32, edit: Edit) -> Result<Ticket, Refusal>
-        ensures { Calls S.Store.meaning M.StateMachine.states (kind_of M.StateMachine.opening M.StateMachine.next M.StateMachine.cell) (proposeTo server edit) (said (λ x. ticket x.0 x.1) (told_ticket result)) self.old self.new }
+    // A leader takes an edit as its next entry.
+    pub fn propose(&mut self, server: u32, edit: Edit) -> Result<Proposed, Refusal>
+        ensures { Calls S.Store.meaning M.StateMachine.states (kind_of M.StateMachine.opening M.StateMachine.next M.StateMachine.cell) (proposeTo server edit) (said (λ x. ticket x.0 x.1) (told_proposed result)) self.old self.new }
     {
         match server_numbered(server) {
             None => Err(Refusal::NoSuchServer),

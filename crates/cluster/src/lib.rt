@@ -4,5 +4,6 @@ mod posting;
 mod reads;
 pub mod state;
 
-pub use server::{Outcome, Ticket, Unclosed};
+pub use reads::Status;
+pub use server::Proposed;
 pub use state::Cluster;

@@ -1,20 +1,30 @@
 // What can be asked of a server, without changing anything.
 ghost use Rattle.std.specs.Prelude.{◌≡◌};
 ghost use Rattle.refusal.specs.Numbers.{told};
-ghost use Rattle.protocol.specs.State.{status_of};
-ghost use Rattle.protocol.specs.Calls.{said, word, cell, standing as standingAt, close as closeAt, look as lookAt};
+ghost use Rattle.protocol.specs.Calls.{said, word, cell, standing as standingAt, look as lookAt};
 ghost use Rattle.server.specs.Turns.{kind_of};
-ghost use Rattle.server.specs.Answers.{told_closed, HandsBack};
 ghost use Rattle.cluster.specs.Meaning.{cluster_of};
 ghost use Rattle.cluster.specs.Called.{Calls};
+ghost use Rattle.cluster.specs.Statuses.{status_of};
 
 use crate::state::Cluster;
 use machine::StateMachine;
 use node::ids::{place_of, server_numbered};
-use protocol::{ServerId, Standing, Status};
+use protocol::{Role, ServerId, Standing};
 use refusal::Refusal;
-use server::{Outcome, Ticket, Unclosed};
 use store::Store;
+
+// A server at a glance.
+#[derive(Clone, Copy)]
+pub struct Status {
+    pub term: u32,
+    pub up: bool,
+    pub role: Role,
+    pub length: u32,
+    pub durable: u32,
+    pub commit: u32,
+    pub applied: u32,
+}
 
 impl<S: Store + Drop, M: StateMachine + Drop> Cluster<S, M> {
     // What a server tells of the ticket with a number and a term.
@@ -26,23 +36,6 @@ impl<S: Store + Drop, M: StateMachine + Drop> Cluster<S, M> {
             Some(me) => {
                 let s = &self.servers[place_of(me)];
                 s.standing(number, term)
-            }
-        }
-    }
-
-    // Closes a ticket whose outcome the server can tell. A refused close hands the ticket back.
-    pub fn close(&self, server: u32, ticket: Ticket) -> Result<Outcome, Unclosed>
-        ensures calls { Calls S.Store.meaning M.StateMachine.states (kind_of M.StateMachine.opening M.StateMachine.next M.StateMachine.cell) (closeAt server ticket.number ticket.term) (said word (told_closed result)) self.now self.now }
-        ensures back { HandsBack result ticket }
-    {
-        match server_numbered(server) {
-            None => {
-                let refusal = Refusal::NoSuchServer;
-                Err(Unclosed { refusal, ticket })
-            }
-            Some(me) => {
-                let s = &self.servers[place_of(me)];
-                s.close(ticket)
             }
         }
     }
@@ -60,7 +53,6 @@ impl<S: Store + Drop, M: StateMachine + Drop> Cluster<S, M> {
         }
     }
 
-    // A server at a glance.
     pub fn status(&self, server: ServerId) -> Status
         ensures { result ≡ status_of ((cluster_of S.Store.meaning M.StateMachine.states (kind_of M.StateMachine.opening M.StateMachine.next M.StateMachine.cell) self.now).core.server server) }
     {

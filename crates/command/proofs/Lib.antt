@@ -1,4 +1,3 @@
 pub mod Splits
 pub mod Lines
 pub mod Sole
-pub mod Puts

@@ -4,5 +4,5 @@ pub mod show;
 pub mod types;
 
 pub use read::command_in;
-pub use show::{Line, state_letter, word};
-pub use types::{Answer, Command};
+pub use show::answer_line;
+pub use types::{Command, Ending, ServerLine};

@@ -1,89 +1,25 @@
 // The line that answers a command.
-ghost use Rattle.std.specs.Prelude.{◌≡◌, ◌≤◌, [], ◌∷◌, length, IfOk, vec_capacity, decimal};
-ghost use Rattle.command.specs.Shown.{role_shown, standing_shown, state_shown, server_shown, number_shown, ending_shown, shown};
-ghost use Rattle.command.specs.Writing.{Room, Put};
+ghost use Rattle.std.specs.Prelude.{◌≡◌, IfOk, Some, string_bytes};
+ghost use Rattle.command.specs.Shown.{role_shown, standing_shown, state_shown, server_shown, ending_shown, shown};
 
-use crate::types::Answer;
-use protocol::{Role, Standing, Status};
+use crate::types::{Ending, ServerLine};
+use protocol::{Role, Standing};
 use std::alloc::{AllocError, Global};
-
-// No line is longer.
-const LINE_MAX: usize = 256;
-
-// A line of output, in memory that is reserved at opening.
-#[derive(Drop)]
-pub struct Line {
-    bytes: Vec<u8>,
-    ghost room: { 256 ≤ vec_capacity bytes },
-}
-
-impl Line {
-    pub fn open(heap: Global) -> Result<Line, AllocError>
-        ensures { IfOk result (λ l. l.bytes.items ≡ []) }
-    {
-        let bytes = Vec::with_capacity(heap, LINE_MAX)?;
-        Ok(Line { bytes })
-    }
-
-    pub fn bytes(&self) -> &[u8]
-        ensures { result.now ≡ self.now.bytes.items }
-    {
-        self.bytes.as_slice()
-    }
-
-    // Writes the line that answers a command, in place of what the buffer held.
-    pub fn write(&mut self, answer: Answer, one: Status, two: Status, three: Status)
-        ensures { self.new.bytes.items ≡ shown answer one two three }
-    {
-        let out = &mut self.bytes;
-        out.truncate(0);
-        put_number(out, u32::from(number_of(answer)));
-        out.push_reserved(b' ');
-        put_server(out, &one);
-        out.push_reserved(b' ');
-        put_server(out, &two);
-        out.push_reserved(b' ');
-        put_server(out, &three);
-        put_ending(out, answer);
-    }
-}
-
-// The number of an answer.
-fn number_of(answer: Answer) -> u8
-    ensures { result ≡ number_shown answer }
-{
-    match answer {
-        Answer::NoCommand => 14,
-        Answer::Refused(refusal) => refusal.number(),
-        Answer::Done
-        | Answer::Lost(_)
-        | Answer::Ticket { .. }
-        | Answer::Kept(_)
-        | Answer::Told(_)
-        | Answer::Cell(_) => 0,
-    }
-}
+use std::fmt;
 
 // The letter of a role.
-fn letter(role: Role) -> u8
-    ensures { role_shown role ≡ result ∷ [] }
+fn letter(role: Role) -> &'static str
+    ensures { result.now ≡ role_shown role }
 {
     match role {
-        Role::Follower => b'f',
-        Role::Candidate => b'c',
-        Role::Leader => b'l',
+        Role::Follower => "f",
+        Role::Candidate => "c",
+        Role::Leader => "l",
     }
-}
-
-// The letter of a server's role, or d where it is down.
-pub fn state_letter(server: &Status) -> u8
-    ensures { state_shown server.now ≡ result ∷ [] }
-{
-    if server.up { letter(server.role) } else { b'd' }
 }
 
 // The word of a standing.
-pub fn word(standing: Standing) -> &'static str
+fn word(standing: Standing) -> &'static str
     ensures { result.now ≡ standing_shown standing }
 {
     match standing {
@@ -94,69 +30,53 @@ pub fn word(standing: Standing) -> &'static str
     }
 }
 
-// Puts the digits of a number.
-fn put_number(out: &mut Vec<u8>, n: u32)
-    requires { Room 10 out.old }
-    ensures { Put 10 out.old (decimal n) out.new }
+// The letter of a server's role, or d where it is down.
+fn state(server: &ServerLine) -> &'static str
+    ensures { result.now ≡ state_shown server.now }
 {
-    if n < 10 {
-        out.push_reserved(b'0' + n as u8);
-    } else {
-        put_number(out, n / 10);
-        out.push_reserved(b'0' + (n % 10) as u8);
+    if server.up { letter(server.role) } else { "d" }
+}
+
+impl fmt::Display for ServerLine {
+    ghost output = { λ s. Some (server_shown s) };
+
+    fn fmt<W: fmt::Write>(&self, f: &mut fmt::Formatter<W>) -> fmt::Result {
+        let term = self.term;
+        let state = state(self);
+        let length = self.length;
+        let durable = self.durable;
+        let commit = self.commit;
+        let applied = self.applied;
+        write!(f, "{term}/{state}/{length}/{durable}/{commit}/{applied}")
     }
 }
 
-// Puts a mark, and the digits of a number.
-fn put_after(out: &mut Vec<u8>, mark: u8, n: u32)
-    requires { Room 11 out.old }
-    ensures { Put 11 out.old (mark ∷ decimal n) out.new }
-{
-    out.push_reserved(mark);
-    put_number(out, n);
-}
+impl fmt::Display for Ending {
+    ghost output = { λ e. Some (ending_shown e) };
 
-// Puts a text.
-fn put_text(out: &mut Vec<u8>, text: &str)
-    requires { Room (length text.now) out.old }
-    ensures { Put (length text.now) out.old text.now out.new }
-{
-    let bytes = text.as_bytes();
-    for byte in bytes {
-        out.push_reserved(*byte);
-    }
-}
-
-// Puts a server at a glance.
-fn put_server(out: &mut Vec<u8>, server: &Status)
-    requires { Room 56 out.old }
-    ensures { Put 56 out.old (server_shown server.now) out.new }
-{
-    put_number(out, server.term);
-    out.push_reserved(b'/');
-    out.push_reserved(state_letter(server));
-    put_after(out, b'/', server.length);
-    put_after(out, b'/', server.durable);
-    put_after(out, b'/', server.commit);
-    put_after(out, b'/', server.applied);
-}
-
-// Puts a space and what the call found, if it tells something.
-fn put_ending(out: &mut Vec<u8>, answer: Answer)
-    requires { Room 11 out.old }
-    ensures { Put 11 out.old (ending_shown answer) out.new }
-{
-    match answer {
-        Answer::NoCommand
-        | Answer::Refused(_)
-        | Answer::Done
-        | Answer::Lost(_)
-        | Answer::Ticket { .. } => {}
-        Answer::Kept(count) => put_after(out, b' ', count),
-        Answer::Told(standing) => {
-            out.push_reserved(b' ');
-            put_text(out, word(standing));
+    fn fmt<W: fmt::Write>(&self, f: &mut fmt::Formatter<W>) -> fmt::Result {
+        match self {
+            Ending::Nothing => Ok(()),
+            Ending::Count(count) => write!(f, " {count}"),
+            Ending::Word(standing) => {
+                let word = word(*standing);
+                write!(f, " {word}")
+            }
+            Ending::Cell(tenths) => write!(f, " {tenths}"),
         }
-        Answer::Cell(tenths) => put_after(out, b' ', u32::from(tenths)),
     }
+}
+
+// The line that tells the answer, the three servers, and what the call found.
+pub fn answer_line(
+    heap: Global,
+    answer: u8,
+    one: ServerLine,
+    two: ServerLine,
+    three: ServerLine,
+    ending: Ending,
+) -> Result<String, AllocError>
+    ensures { IfOk result (λ t. string_bytes t ≡ shown answer one two three ending) }
+{
+    format!(in heap; "{answer} {one} {two} {three}{ending}")
 }

@@ -1,6 +1,5 @@
-// A command, and what it is answered with.
-use protocol::Standing;
-use refusal::Refusal;
+// A command, and what a printed line tells.
+use protocol::{Role, Standing};
 use sheet::Edit;
 
 // A call of the cluster, with its numbers.
@@ -19,21 +18,26 @@ pub enum Command {
     Look { server: u32, row: u32, size: u32 },
 }
 
-// What a line is answered with.
+// What a line tells of a server.
 #[derive(Clone, Copy)]
-pub enum Answer {
-    // The line is no command.
-    NoCommand,
-    Refused(Refusal),
-    Done,
-    // How many messages were lost.
-    Lost(u32),
-    // A ticket's number and term.
-    Ticket { number: u32, term: u32 },
-    // How many entries an outage kept.
-    Kept(u32),
+pub struct ServerLine {
+    pub term: u32,
+    pub up: bool,
+    pub role: Role,
+    pub length: u32,
+    pub durable: u32,
+    pub commit: u32,
+    pub applied: u32,
+}
+
+// What a line ends with.
+#[derive(Clone, Copy)]
+pub enum Ending {
+    Nothing,
+    // How many entries were kept.
+    Count(u32),
     // What the server can tell of a ticket.
-    Told(Standing),
+    Word(Standing),
     // Tenths of a millimetre.
     Cell(u16),
 }

@@ -1,5 +1,5 @@
 -- The twelve calls: what each answers, the refusals in order of checking by their numbers, and the cluster after it. A refused call changes nothing.
-use Rattle.std.specs.Prelude.{◌≡◌, ℕ, suc, ◌+◌, ◌-◌, Bool, true, false, cond, not, ◌&&◌, List, ◌++◌, length, take, drop, ℤ, Ok, Err, Result, nat_le, nat_lt, slice_index_or}
+use Rattle.std.specs.Prelude.{◌≡◌, ℕ, suc, ◌+◌, ◌-◌, Bool, true, false, cond, not, ◌&&◌, ◌||◌, List, ◌++◌, length, take, drop, ℤ, Ok, Err, Result, nat_le, nat_lt, slice_index_or}
 use Rattle.std.specs.Option.{ok_or}
 use Rattle.sheet.specs.declared.types.Edit.{Edit}
 use Rattle.machine.specs.States.{newest}
@@ -9,7 +9,7 @@ use Rattle.protocol.specs.ServerIds.{ServerId, one, numbered, same, low, high}
 use Rattle.protocol.specs.State.{Server, is_leader, VoteReply, Message, Core, Machine, Cluster, joined, lost_of, joined_some, lost_some, change, with, posted}
 use Rattle.protocol.specs.Elections.{caught_up, last_of_terms, stands, may_campaign, campaigns, vote_request}
 use Rattle.protocol.specs.AppendEntries.{append_request}
-use Rattle.protocol.specs.Rules.{hears, replies, proposes, firms, openly, few_open, applies_next, fails, may_keep_at, restarts, standing_of, moved}
+use Rattle.protocol.specs.Rules.{hears, replies, proposes, firms, openly, few_open, applies_next, fails, may_keep, restarts, standing_of, moved}
 
 -- A call, with its arguments as they are given: servers by number and messages by position, any number; an outage with the count that it told.
 pub data Call : Type 0 where
@@ -61,13 +61,10 @@ campaign_call w j =
     with w j (campaigns j (w.server j))
     (cond (may_campaign (w.server j)) (joined (joined w.network (vote_request j s (low j))) (vote_request j s (high j))) w.network)
 
--- its refusals, or what it answers
-abbrev pub refuses_campaign : {V : Type 0} → Server → V → Result V ℕ
-refuses_campaign s v = cond s.up (cond (is_leader s.role) (Err 3) (cond (nat_lt s.term last_of_terms) (Ok v) (Err 4))) (Err 2)
-
 abbrev pub campaign_answer : Core → ServerId → Result ℕ ℕ
 campaign_answer w j =
-    refuses_campaign (w.server j) (lost_of w.network + lost_of (joined w.network (vote_request j (stands j (w.server j)) (low j))))
+    cond (w.server j).up (cond (is_leader (w.server j).role) (Err 3) (cond (nat_lt (w.server j).term last_of_terms)
+    (Ok (lost_of w.network + lost_of (joined w.network (vote_request j (stands j (w.server j)) (low j))))) (Err 4))) (Err 2)
 
 -- Deliver: the message is removed first unless it is to be kept; the receiver takes its term if higher, and hears it.
 abbrev pub deliver_call : Core → ℕ → Bool → Core
@@ -113,12 +110,8 @@ abbrev pub send_call : Core → ServerId → ServerId → Core
 send_call w j r =
     cond ((w.server j).up && (is_leader (w.server j).role && not (same j r))) (posted w (append_request j (w.server j) r)) w
 
--- its refusals, or what it answers
-abbrev pub refuses_send : {V : Type 0} → ServerId → ServerId → Server → V → Result V ℕ
-refuses_send j r s v = cond s.up (cond (is_leader s.role) (cond (same j r) (Err 8) (Ok v)) (Err 6)) (Err 2)
-
 abbrev pub send_answer : Core → ServerId → ServerId → Result ℕ ℕ
-send_answer w j r = refuses_send j r (w.server j) (lost_of w.network)
+send_answer w j r = cond (w.server j).up (cond (is_leader (w.server j).role) (cond (same j r) (Err 8) (Ok (lost_of w.network))) (Err 6)) (Err 2)
 
 -- Apply: the next entry, below commit or openly.
 abbrev pub apply_call : Core → ServerId → Core
@@ -207,7 +200,7 @@ keeps_enough w (propose n e) = true
 keeps_enough w (firm n) = true
 keeps_enough w (send n r) = true
 keeps_enough w (apply n) = true
-keeps_enough w (outage n c) = numbered n (λ j. may_keep_at c (w.server j)) true
+keeps_enough w (outage n c) = numbered n (λ j. not (w.server j).up || may_keep c (w.server j)) true
 keeps_enough w (restart n) = true
 keeps_enough w (standing n i t) = true
 keeps_enough w (close n i t) = true

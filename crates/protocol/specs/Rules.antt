@@ -68,10 +68,6 @@ fails c s = cond s.up (stops c s) s
 abbrev pub may_keep : ℕ → Server → Bool
 may_keep c s = nat_le s.durable c && nat_le c (length s.log)
 
--- a server that is down keeps what it has, whatever is asked
-abbrev pub may_keep_at : ℕ → Server → Bool
-may_keep_at c s = not s.up || may_keep c s
-
 abbrev pub starts : Server → Server
 starts s = set_up true s
 

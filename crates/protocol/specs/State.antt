@@ -8,7 +8,6 @@ pub use Rattle.protocol.specs.declared.Role.TheVariants.{Follower as follower, C
 pub use Rattle.protocol.specs.declared.Body.{Body}
 pub use Rattle.protocol.specs.declared.Body.TheVariants.{VoteRequest, VoteReply, AppendRequest, AppendReply}
 pub use Rattle.protocol.specs.declared.Message.{Message}
-use Rattle.protocol.specs.declared.Status.{Status}
 
 -- A log: entries in order, numbered from 1.
 abbrev pub Log : Type 0
@@ -49,10 +48,6 @@ pub record Server : Type 0 where
   pub match : ServerId → ℕ
   pub commit : ℕ
   pub applied : ℕ
-
--- a server at a glance
-abbrev pub status_of : Server → Status
-status_of s = record { term = s.term; up = s.up; role = s.role; length = length s.log; durable = s.durable; commit = s.commit; applied = s.applied }
 
 -- A server with some part of it replaced.
 abbrev pub set_up : Bool → Server → Server

@@ -53,15 +53,3 @@ pub enum Standing {
     Open,
     Unknown,
 }
-
-// A server at a glance.
-#[derive(Clone, Copy)]
-pub struct Status {
-    pub term: u32,
-    pub up: bool,
-    pub role: Role,
-    pub length: u32,
-    pub durable: u32,
-    pub commit: u32,
-    pub applied: u32,
-}

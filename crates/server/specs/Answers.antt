@@ -1,43 +1,29 @@
 -- What the calls at one server answer.
-use Rattle.std.specs.Prelude.{◌≡◌, ℕ, Ok, Err, Result}
+use Rattle.std.specs.Prelude.{ℕ, Bool, cond, not, ◌||◌, Ok, Err, Result}
 use Rattle.refusal.specs.declared.Refusal.{Refusal}
 use Rattle.refusal.specs.Numbers.{number_of}
 use Rattle.protocol.specs.declared.ServerId.{ServerId}
 use Rattle.protocol.specs.declared.Message.{Message}
-use Rattle.protocol.specs.declared.Standing.{Standing}
-use Rattle.protocol.specs.declared.Standing.TheVariants.{Kept as KeptWord, Gone as GoneWord}
-use Rattle.protocol.specs.State.{Server as State}
+use Rattle.protocol.specs.ServerIds.{same}
+use Rattle.protocol.specs.State.{Server as State, is_leader}
 use Rattle.protocol.specs.AppendEntries.{append_request}
-use Rattle.protocol.specs.Calls.{refuses_send}
-use Rattle.server.specs.declared.tickets.Ticket.{Ticket}
-use Rattle.server.specs.declared.tickets.Outcome.{Outcome}
-use Rattle.server.specs.declared.tickets.Outcome.TheVariants.{Kept, Gone}
-use Rattle.server.specs.declared.tickets.Unclosed.{Unclosed}
+use Rattle.protocol.specs.Rules.{may_keep}
+use Rattle.server.specs.declared.Proposed.{Proposed}
 
--- a ticket's number and term, or the number of the refusal
-abbrev pub told_ticket : Result Ticket Refusal → Result (ℕ × ℕ) ℕ
-told_ticket (Ok p) = Ok (p.number, p.term)
-told_ticket (Err e) = Err (number_of e)
-
--- a closed ticket's outcome, as the word of a standing, or the number of the refusal
-abbrev pub outcome_word : Outcome → Standing
-outcome_word Kept = KeptWord
-outcome_word Gone = GoneWord
-
-abbrev pub told_closed : Result Outcome Unclosed → Result Standing ℕ
-told_closed (Ok o) = Ok (outcome_word o)
-told_closed (Err u) = Err (number_of u.refusal)
-
--- a refused close hands the same ticket back
-abbrev pub HandsBack : Result Outcome Unclosed → Ticket → Type 0
-HandsBack (Ok o) t = Unit {0}
-HandsBack (Err u) t = u.ticket ≡ t
+-- a proposal's number and term, or the number of its refusal
+abbrev pub told_proposed : Result Proposed Refusal → Result (ℕ × ℕ) ℕ
+told_proposed (Ok p) = Ok (p.number, p.term)
+told_proposed (Err e) = Err (number_of e)
 
 -- The append request of a leader to another.
 abbrev pub request_answer : ServerId → ServerId → State → Result Message ℕ
-request_answer j r s = refuses_send j r s (append_request j s r)
+request_answer j r s = cond s.up (cond (is_leader s.role) (cond (same j r) (Err 8) (Ok (append_request j s r))) (Err 6)) (Err 2)
 
 -- How many entries an outage told that it kept, 0 where it was refused.
 abbrev pub kept_by : Result ℕ Refusal → ℕ
 kept_by (Ok c) = c
 kept_by (Err e) = 0
+
+-- An up server may keep that many.
+abbrev pub may_keep_at : ℕ → State → Bool
+may_keep_at c s = not s.up || may_keep c s

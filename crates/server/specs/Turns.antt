@@ -7,15 +7,10 @@ use Rattle.protocol.specs.State.{Server as State, Machine, at}
 use Rattle.protocol.specs.Rules.{settled_times, moved}
 use Rattle.node.specs.Meaning.{serverOf}
 use Rattle.server.specs.declared.Server.{Server}
-use Rattle.server.specs.declared.following.Before.{Before}
 
 -- a kind of machine, from what its trait says
 abbrev pub kind_of : {X : Type 0} → X → (X → Edit → X) → (X → ℤ → ℤ → Option ℕ) → Machine X
 kind_of opening next cell = record { opening = opening; next = next; cell = cell }
-
--- all that a machine has to know of its server before a call
-abbrev pub before_of : State → Before
-before_of s = record { up = s.up; applied = s.applied; commit = s.commit }
 
 module _ {X : Type 0} (K : Machine X) where
   -- from `was` applied entries to those of s
@@ -23,10 +18,10 @@ module _ {X : Type 0} (K : Machine X) where
   advanced was s ms =
       cond (nat_lt was s.applied) (oneApplied K.opening K.next (at s.log was).edit ms) (undoneTimes (was - s.applied) ms)
 
-  -- the protocol's move of a machine, from what it reads of the server before
-  abbrev pub movedFrom : Before → State → List X → List X
-  movedFrom was s ms =
-      cond (was.up && not s.up) (K.opening ∷ []) (settled_times (min s.applied s.commit - min was.applied was.commit) (advanced was.applied s ms))
+  -- the protocol's move of a machine, from the three things that it reads of the server before
+  abbrev pub movedFrom : Bool → (applied commit : ℕ) → State → List X → List X
+  movedFrom up applied commit s ms =
+      cond (up && not s.up) (K.opening ∷ []) (settled_times (min s.applied s.commit - min applied commit) (advanced applied s ms))
 
 module _ {S M X : Type 0} (meaning : S → StoreState) (states : M → List X) where
   abbrev pub state_of : Server S M → State

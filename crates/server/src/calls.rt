@@ -4,14 +4,14 @@ ghost use Rattle.refusal.specs.Numbers.{told};
 ghost use Rattle.protocol.specs.declared.ServerId.TheVariants.{One};
 ghost use Rattle.protocol.specs.State.{core_opening};
 ghost use Rattle.protocol.specs.Elections.{caught_up, campaigns};
-ghost use Rattle.protocol.specs.Rules.{hears, replies, proposes, firms, applies_next, fails, may_keep_at, restarts};
-ghost use Rattle.protocol.specs.Calls.{propose_answer, firm_answer, apply_answer, outage_answer, restart_answer, standing_answer, close_answer, look_answer};
+ghost use Rattle.protocol.specs.Rules.{hears, replies, proposes, firms, applies_next, fails, restarts};
+ghost use Rattle.protocol.specs.Calls.{propose_answer, firm_answer, apply_answer, outage_answer, restart_answer, standing_answer, look_answer};
 ghost use Rattle.node.specs.Campaigns.{stand_answer};
 ghost use Rattle.server.specs.Turns.{kind_of, state_of, statesOf, Turned};
-ghost use Rattle.server.specs.Answers.{told_ticket, request_answer, kept_by, told_closed, HandsBack};
+ghost use Rattle.server.specs.Answers.{told_proposed, request_answer, kept_by, may_keep_at};
 
-use crate::following::{follow, seen_before};
-use crate::{Outcome, Server, Ticket, Unclosed, steps};
+use crate::following::follow;
+use crate::{Proposed, Server, steps};
 use machine::StateMachine;
 use node::Node;
 use node::ids::{is_same, leads};
@@ -39,9 +39,11 @@ impl<S: Store + Drop, M: StateMachine + Drop> Server<S, M> {
         ensures says { told result ≡ stand_answer me (state_of S.Store.meaning M.StateMachine.states self.old) }
         ensures turns { Turned S.Store.meaning M.StateMachine.states (kind_of M.StateMachine.opening M.StateMachine.next M.StateMachine.cell) self.old (campaigns me) self.new }
     {
-        let was = seen_before(&self.node);
+        let up = self.node.up;
+        let applied = self.node.applied;
+        let commit = self.node.commit;
         let r = self.node.campaign(me);
-        follow(&mut self.machine, was, &self.node);
+        follow(&mut self.machine, up, applied, commit, &self.node);
         r
     }
 
@@ -50,19 +52,23 @@ impl<S: Store + Drop, M: StateMachine + Drop> Server<S, M> {
         ensures says { result ≡ replies (caught_up message.term (state_of S.Store.meaning M.StateMachine.states self.old)) message.from message.to message.term message.body }
         ensures turns { Turned S.Store.meaning M.StateMachine.states (kind_of M.StateMachine.opening M.StateMachine.next M.StateMachine.cell) self.old (λ s. hears (caught_up message.term s) message.from message.to message.term message.body) self.new }
     {
-        let was = seen_before(&self.node);
+        let up = self.node.up;
+        let applied = self.node.applied;
+        let commit = self.node.commit;
         let r = steps::hear(&mut self.node, message);
-        follow(&mut self.machine, was, &self.node);
+        follow(&mut self.machine, up, applied, commit, &self.node);
         r
     }
 
-    pub fn propose(&mut self, edit: Edit) -> Result<Ticket, Refusal>
-        ensures says { told_ticket result ≡ propose_answer (state_of S.Store.meaning M.StateMachine.states self.old) }
+    pub fn propose(&mut self, edit: Edit) -> Result<Proposed, Refusal>
+        ensures says { told_proposed result ≡ propose_answer (state_of S.Store.meaning M.StateMachine.states self.old) }
         ensures turns { Turned S.Store.meaning M.StateMachine.states (kind_of M.StateMachine.opening M.StateMachine.next M.StateMachine.cell) self.old (proposes edit) self.new }
     {
-        let was = seen_before(&self.node);
+        let up = self.node.up;
+        let applied = self.node.applied;
+        let commit = self.node.commit;
         let r = steps::propose(&mut self.node, edit);
-        follow(&mut self.machine, was, &self.node);
+        follow(&mut self.machine, up, applied, commit, &self.node);
         r
     }
 
@@ -70,9 +76,11 @@ impl<S: Store + Drop, M: StateMachine + Drop> Server<S, M> {
         ensures says { told result ≡ firm_answer (state_of S.Store.meaning M.StateMachine.states self.old) }
         ensures turns { Turned S.Store.meaning M.StateMachine.states (kind_of M.StateMachine.opening M.StateMachine.next M.StateMachine.cell) self.old (firms me) self.new }
     {
-        let was = seen_before(&self.node);
+        let up = self.node.up;
+        let applied = self.node.applied;
+        let commit = self.node.commit;
         let r = steps::firm(&mut self.node, me);
-        follow(&mut self.machine, was, &self.node);
+        follow(&mut self.machine, up, applied, commit, &self.node);
         r
     }
 
@@ -96,9 +104,11 @@ impl<S: Store + Drop, M: StateMachine + Drop> Server<S, M> {
         ensures says { told result ≡ apply_answer (state_of S.Store.meaning M.StateMachine.states self.old) }
         ensures turns { Turned S.Store.meaning M.StateMachine.states (kind_of M.StateMachine.opening M.StateMachine.next M.StateMachine.cell) self.old applies_next self.new }
     {
-        let was = seen_before(&self.node);
+        let up = self.node.up;
+        let applied = self.node.applied;
+        let commit = self.node.commit;
         let r = steps::apply(&mut self.node);
-        follow(&mut self.machine, was, &self.node);
+        follow(&mut self.machine, up, applied, commit, &self.node);
         r
     }
 
@@ -108,9 +118,11 @@ impl<S: Store + Drop, M: StateMachine + Drop> Server<S, M> {
         ensures may { may_keep_at (kept_by result) (state_of S.Store.meaning M.StateMachine.states self.old) ≡ true }
         ensures turns { Turned S.Store.meaning M.StateMachine.states (kind_of M.StateMachine.opening M.StateMachine.next M.StateMachine.cell) self.old (fails (kept_by result)) self.new }
     {
-        let was = seen_before(&self.node);
+        let up = self.node.up;
+        let applied = self.node.applied;
+        let commit = self.node.commit;
         let r = steps::stop(&mut self.node, wish);
-        follow(&mut self.machine, was, &self.node);
+        follow(&mut self.machine, up, applied, commit, &self.node);
         r
     }
 
@@ -118,9 +130,11 @@ impl<S: Store + Drop, M: StateMachine + Drop> Server<S, M> {
         ensures says { told result ≡ restart_answer (state_of S.Store.meaning M.StateMachine.states self.old) }
         ensures turns { Turned S.Store.meaning M.StateMachine.states (kind_of M.StateMachine.opening M.StateMachine.next M.StateMachine.cell) self.old restarts self.new }
     {
-        let was = seen_before(&self.node);
+        let up = self.node.up;
+        let applied = self.node.applied;
+        let commit = self.node.commit;
         let r = steps::restart(&mut self.node);
-        follow(&mut self.machine, was, &self.node);
+        follow(&mut self.machine, up, applied, commit, &self.node);
         r
     }
 
@@ -131,14 +145,6 @@ impl<S: Store + Drop, M: StateMachine + Drop> Server<S, M> {
             return Err(Refusal::ServerDown);
         }
         Ok(steps::standing_of(&self.node, number, term))
-    }
-
-    // Closes a ticket whose outcome the server can tell, or hands it back.
-    pub fn close(&self, ticket: Ticket) -> Result<Outcome, Unclosed>
-        ensures says { told_closed result ≡ close_answer (state_of S.Store.meaning M.StateMachine.states self.now) ticket.number ticket.term }
-        ensures back { HandsBack result ticket }
-    {
-        steps::close(&self.node, ticket)
     }
 
     // A cell of the machine's newest state.

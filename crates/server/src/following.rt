@@ -3,31 +3,13 @@ ghost use Rattle.std.specs.Prelude.{◌≡◌};
 ghost use Rattle.protocol.specs.State.{at};
 ghost use Rattle.protocol.specs.Rules.{settled_times};
 ghost use Rattle.node.specs.Meaning.{serverOf};
-ghost use Rattle.server.specs.Turns.{kind_of, before_of, advanced, movedFrom};
+ghost use Rattle.server.specs.Turns.{kind_of, advanced, movedFrom};
 
 use machine::StateMachine;
 use machine::rehearsal::undo_times;
 use node::Node;
 use sheet::Edit;
 use store::Store;
-
-// What a machine has to know of its node before a call.
-#[derive(Clone, Copy)]
-pub struct Before {
-    pub up: bool,
-    pub applied: u32,
-    pub commit: u32,
-}
-
-pub fn seen_before<S: Store + Drop>(node: &Node<S>) -> Before
-    ensures { result ≡ before_of (serverOf S.Store.meaning node.now) }
-{
-    Before {
-        up: node.up,
-        applied: node.applied,
-        commit: node.commit,
-    }
-}
 
 // Settles as often as that, as far as there are states to settle.
 fn settle_times<M: StateMachine>(machine: &mut M, times: u32)
@@ -65,15 +47,21 @@ fn advance<S: Store + Drop, M: StateMachine + Drop>(machine: &mut M, was: u32, n
     }
 }
 
-// The machine moves from what its node was to what it is.
-pub fn follow<S: Store + Drop, M: StateMachine + Drop>(machine: &mut M, was: Before, node: &Node<S>)
-    ensures { M.StateMachine.states machine.new ≡ movedFrom (kind_of M.StateMachine.opening M.StateMachine.next M.StateMachine.cell) was (serverOf S.Store.meaning node.now) (M.StateMachine.states machine.old) }
+// Moves from what the node was: up or not, its applied and its commit.
+pub fn follow<S: Store + Drop, M: StateMachine + Drop>(
+    machine: &mut M,
+    up: bool,
+    applied: u32,
+    commit: u32,
+    node: &Node<S>,
+)
+    ensures { M.StateMachine.states machine.new ≡ movedFrom (kind_of M.StateMachine.opening M.StateMachine.next M.StateMachine.cell) up applied commit (serverOf S.Store.meaning node.now) (M.StateMachine.states machine.old) }
 {
-    if was.up && !node.up {
+    if up && !node.up {
         machine.reset();
         return;
     }
-    advance(machine, was.applied, node);
+    advance(machine, applied, node);
     let decided = node.applied.min(node.commit);
-    settle_times(machine, decided.saturating_sub(was.applied.min(was.commit)));
+    settle_times(machine, decided.saturating_sub(applied.min(commit)));
 }

@@ -6,12 +6,16 @@ use store::Store;
 pub mod calls;
 pub mod following;
 pub mod steps;
-pub mod tickets;
-
-pub use tickets::{Outcome, Ticket, Unclosed};
 
 #[derive(Drop)]
 pub struct Server<S: Store + Drop, M: StateMachine + Drop> {
     pub node: Node<S>,
     pub machine: M,
+}
+
+// What a proposal is known by: the number and the term of its entry.
+#[derive(Clone, Copy)]
+pub struct Proposed {
+    pub number: u32,
+    pub term: u32,
 }

@@ -2,12 +2,12 @@
 ghost use Rattle.std.specs.Prelude.{◌≡◌, ◌<◌, true, T, [], ◌∷◌, ◌++◌, length};
 ghost use Rattle.refusal.specs.Numbers.{told};
 ghost use Rattle.protocol.specs.Elections.{caught_up};
-ghost use Rattle.protocol.specs.Rules.{hears, replies, proposes, firms, openly as openlyAt, few_open, applies, applies_next, fails, may_keep_at, restarts, standing_of};
-ghost use Rattle.protocol.specs.Calls.{propose_answer, firm_answer, apply_answer, outage_answer, restart_answer, close_answer};
+ghost use Rattle.protocol.specs.Rules.{hears, replies, proposes, firms, openly as openlyAt, few_open, applies, applies_next, fails, restarts, standing_of};
+ghost use Rattle.protocol.specs.Calls.{propose_answer, firm_answer, apply_answer, outage_answer, restart_answer};
 ghost use Rattle.node.specs.Meaning.{serverOf, Goes};
-ghost use Rattle.server.specs.Answers.{told_ticket, kept_by, told_closed, HandsBack};
+ghost use Rattle.server.specs.Answers.{told_proposed, kept_by, may_keep_at};
 
-use crate::{Outcome, Ticket, Unclosed};
+use crate::Proposed;
 use node::Node;
 use node::ids::leads;
 use protocol::{Body, Message, Role, ServerId, Standing};
@@ -49,8 +49,8 @@ pub fn hear<S: Store + Drop>(node: &mut Node<S>, message: Message) -> Option<Mes
 }
 
 // A leader takes an entry of its term, volatile.
-pub fn propose<S: Store + Drop>(node: &mut Node<S>, edit: Edit) -> Result<Ticket, Refusal>
-    ensures says { told_ticket result ≡ propose_answer (serverOf S.Store.meaning node.old) }
+pub fn propose<S: Store + Drop>(node: &mut Node<S>, edit: Edit) -> Result<Proposed, Refusal>
+    ensures says { told_proposed result ≡ propose_answer (serverOf S.Store.meaning node.old) }
     ensures after { Goes S.Store.meaning node.old (proposes edit) node.new }
 {
     // That the server is down is told before that it is no leader.
@@ -66,7 +66,7 @@ pub fn propose<S: Store + Drop>(node: &mut Node<S>, edit: Edit) -> Result<Ticket
     }
     let term = node.store.term();
     let _ = node.store.append(Entry { term, edit });
-    Ok(Ticket {
+    Ok(Proposed {
         number: length + 1,
         term,
     })
@@ -171,25 +171,4 @@ pub fn standing_of<S: Store + Drop>(node: &Node<S>, number: u32, term: u32) -> S
     } else {
         Standing::Unknown
     }
-}
-
-// Closes a ticket whose outcome the node can tell, or hands it back.
-pub fn close<S: Store + Drop>(node: &Node<S>, ticket: Ticket) -> Result<Outcome, Unclosed>
-    ensures says { told_closed result ≡ close_answer (serverOf S.Store.meaning node.now) ticket.number ticket.term }
-    ensures back { HandsBack result ticket }
-{
-    if !node.up {
-        let refusal = Refusal::ServerDown;
-        return Err(Unclosed { refusal, ticket });
-    }
-    let outcome = match standing_of(node, ticket.number, ticket.term) {
-        Standing::Kept => Outcome::Kept,
-        Standing::Gone => Outcome::Gone,
-        Standing::Open | Standing::Unknown => {
-            let refusal = Refusal::Undecided;
-            return Err(Unclosed { refusal, ticket });
-        }
-    };
-    ticket.write_off();
-    Ok(outcome)
 }

@@ -1,15 +1,24 @@
 // table-run: reads commands, makes their calls on a cluster, and prints a line for each.
+mod calls;
+
 use buffered_store::BufferedStore;
+use calls::{Told, make, server_line};
 use cluster::Cluster;
-use command::Line;
+use command::{Ending, answer_line, command_in};
 use machine::UndoMachine;
-use session::answer_line;
+use protocol::ServerId;
 use std::alloc::{AllocError, Global};
 use std::io;
 use std::io::{BufRead, BufReader, BufWriter, Write};
-use store::{RecordStore, Store};
+use store::RecordStore;
 
 type Servers = Cluster<BufferedStore<RecordStore>, UndoMachine>;
+
+// The answer to a line that is no command.
+const NO_COMMAND: Told = Told {
+    answer: 14,
+    ending: Ending::Nothing,
+};
 
 fn parts(heap: Global) -> Result<(BufferedStore<RecordStore>, UndoMachine), AllocError> {
     let store = BufferedStore::open(heap, RecordStore::open(heap)?)?;
@@ -20,31 +29,26 @@ fn open(heap: Global) -> Result<Servers, AllocError> {
     Cluster::open(heap, parts(heap)?, parts(heap)?, parts(heap)?)
 }
 
-// Reads the next line, without its line feed. Tells whether there was one.
-fn next_line(input: &mut impl BufRead, line: &mut Vec<u8>) -> io::Result<bool> {
-    line.truncate(0);
-    if input.read_until(b'\n', line)? == 0 {
-        return Ok(false);
-    }
-    if line.last() == Some(&b'\n') {
-        let _ = line.pop();
-    }
-    Ok(true)
+// The line that answers a line of input.
+fn answer_to(heap: Global, cluster: &mut Servers, line: &[u8]) -> Result<String, AllocError> {
+    let told = match command_in(line) {
+        Some(command) => make(cluster, command),
+        None => NO_COMMAND,
+    };
+    let one = server_line(cluster.status(ServerId::One));
+    let two = server_line(cluster.status(ServerId::Two));
+    let three = server_line(cluster.status(ServerId::Three));
+    answer_line(heap, told.answer, one, two, three, told.ending)
 }
 
 fn main(rt: HostRuntime) -> io::Result<()> {
     let heap = rt.alloc();
     let mut cluster = open(heap)?;
-    let mut answer = Line::open(heap)?;
-    let mut line = Vec::new(heap);
-    let mut input = BufReader::new(heap, rt.stdin())?;
     let mut out = BufWriter::new(heap, rt.stdout())?;
-    for _ in 0..u64::MAX {
-        if !next_line(&mut input, &mut line)? {
-            break;
-        }
-        answer_line(&mut cluster, line.as_slice(), &mut answer);
-        out.write_all(answer.bytes())?;
+    for line in BufReader::new(heap, rt.stdin())?.split(heap, b'\n') {
+        let line = line?;
+        let answer = answer_to(heap, &mut cluster, line.as_slice())?;
+        out.write_all(answer.as_bytes())?;
         out.write_all(b"\n")?;
     }
     out.flush()

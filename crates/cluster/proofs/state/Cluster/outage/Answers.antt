@@ -1,10 +1,10 @@
 use Rattle.std.proofs.Common.{◌≡◌, true, vec_items, sym, refl, ap, ◌∙◌}
 use Rattle.protocol.specs.State.{change}
-use Rattle.protocol.specs.Rules.{fails, may_keep_at}
+use Rattle.protocol.specs.Rules.{fails}
 use Rattle.protocol.specs.Calls.{outage, said, keeps, outage_answer}
 use Rattle.cluster.specs.Meaning.{model}
 use Rattle.server.specs.Turns.{kind_of, state_of, statesOf}
-use Rattle.server.specs.Answers.{kept_by}
+use Rattle.server.specs.Answers.{kept_by, may_keep_at}
 use Rattle.cluster.proofs.Threes.{numbered_none}
 use Rattle.cluster.proofs.Links.{nobody, on_one, may_keep_by}
 use Rattle.cluster.proofs.state.Cluster.outage.Goals as goal
