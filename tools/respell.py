@@ -16,7 +16,7 @@ import subprocess
 import sys
 import tempfile
 
-DECLARED = re.compile(r"(?m)^(?:(?:abbrev|pub|data|record|private|mutual) +)*([^\s(){}.;,@\"«»]+)(?: \{[^{}\n]*\})* :(?:\s|$)")
+DECLARED = re.compile(r"(?m)^ *(?:(?:abbrev|unfoldable|pub|data|record|private|mutual) +)*([^\s(){}.;,@\"«»]+)(?: \{[^{}\n]*\})* :(?:\s|$)")
 FIELD = re.compile(r"(?m)^  +(?:pub )?([^\s(){}.;,@\"«»]+) :(?:\s|$)")
 WORD = re.compile(r'[^\s(){}.;,@"«»]+')
 
@@ -63,7 +63,7 @@ def replaced(path, table):
 def main():
     for old, new, files in FIRST:
         for p in files:
-            if os.path.exists(p):
+            if os.path.exists("crates/store/specs/Stores.antt") and "hasRoom" in open("crates/store/specs/Stores.antt", encoding="utf-8").read():
                 replaced(p, {old: new})
     table = {n: OWN.get(n, snake(n)) for n in declared() if (re.search("[a-z0-9][A-Z]", n) or "-" in n) and not n[0].isupper()}
     kit = os.path.dirname(subprocess.run(["rt", "doc"], capture_output=True, text=True, check=True).stdout.strip())

@@ -6,23 +6,23 @@ use Rattle.record.specs.declared.kinds.Record.TheVariants.{Opening, Logged}
 use Rattle.record.specs.declared.fault.RecordFault.{RecordFault}
 use Rattle.record.specs.Format.{encode, answered}
 use Rattle.record.proofs.Bytes.{Bytes}
-use Rattle.byte_store.specs.Bytes.{openingPart, placePart, ballotIn, entryIn, Opened, PlacedAt}
+use Rattle.byte_store.specs.Bytes.{opening_part, place_part, ballot_in, entry_in, Opened, PlacedAt}
 use Rattle.byte_store.specs.Decoding.{bytes_take, bytes_drop}
 
-pub opened_front : (bs : List ℕ) → Opened bs → bs ≡ encode (Opening (ballotIn (openingPart bs))) ++ drop 10 bs
-unfolding openingPart
+pub opened_front : (bs : List ℕ) → Opened bs → bs ≡ encode (Opening (ballot_in (opening_part bs))) ++ drop 10 bs
+unfolding opening_part
 opened_front bs o = sym (take-append-drop 10 bs) ∙ ap (λ l. l ++ drop 10 bs) o
 
-pub placed_part : (bs : List ℕ) (k at n : ℕ) → at ≡ 10 + 26 * k → n ≡ 26 → PlacedAt k bs → take n (drop at bs) ≡ encode (Logged (entryIn (placePart k bs))) ++ []
-unfolding placePart
+pub placed_part : (bs : List ℕ) (k at n : ℕ) → at ≡ 10 + 26 * k → n ≡ 26 → PlacedAt k bs → take n (drop at bs) ≡ encode (Logged (entry_in (place_part k bs))) ++ []
+unfolding place_part
 placed_part bs k at n e h p = (λ i. take (h i) (drop (e i) bs)) ∙ p ∙ sym (append-nil _)
 
-pub bytes_opening : (bs : List ℕ) → Bytes bs → Bytes (openingPart bs)
-unfolding openingPart
+pub bytes_opening : (bs : List ℕ) → Bytes bs → Bytes (opening_part bs)
+unfolding opening_part
 bytes_opening bs f = bytes_take 10 bs f
 
-pub bytes_place : (bs : List ℕ) (k : ℕ) → Bytes bs → Bytes (placePart k bs)
-unfolding placePart
+pub bytes_place : (bs : List ℕ) (k : ℕ) → Bytes bs → Bytes (place_part k bs)
+unfolding place_part
 bytes_place bs k f = bytes_take 26 (drop (10 + 26 * k) bs) (bytes_drop (10 + 26 * k) bs f)
 
 -- what the answer of the reader is, by the answer with the bytes of its rest

@@ -20,33 +20,33 @@ abbrev pub word_at : ℕ → List ℕ → ℤ
 word_at k bs = to_z w32 (four_at k bs)
 
 -- What the bytes of a record say: its fields stand behind the four bytes of its length and kind.
-unfoldable pub ballotIn : List ℕ → Ballot
-ballotIn bs = record { term = four_at 4 bs; vote = two_at 8 bs }
+unfoldable pub ballot_in : List ℕ → Ballot
+ballot_in bs = record { term = four_at 4 bs; vote = two_at 8 bs }
 
-unfoldable pub entryIn : List ℕ → Entry
-entryIn bs =
+unfoldable pub entry_in : List ℕ → Entry
+entry_in bs =
     record {
       term = four_at 4 bs;
       edit = record { kind = two_at 8 bs; row = word_at 10 bs; size = word_at 14 bs; a = word_at 18 bs; q = word_at 22 bs };
     }
 
 -- Which bytes belong to the opening record, and which to the place k, from 0.
-unfoldable pub openingPart : List ℕ → List ℕ
-openingPart bs = take 10 bs
+unfoldable pub opening_part : List ℕ → List ℕ
+opening_part bs = take 10 bs
 
-unfoldable pub placePart : ℕ → List ℕ → List ℕ
-placePart k bs = take 26 (drop (10 + 26 * k) bs)
+unfoldable pub place_part : ℕ → List ℕ → List ℕ
+place_part k bs = take 26 (drop (10 + 26 * k) bs)
 
 -- the entries in the first n places, in order
 unfoldable pub entries_in : ℕ → List ℕ → List Entry
-entries_in n bs = map (λ k. entryIn (placePart k bs)) (range_with_len 0 n)
+entries_in n bs = map (λ k. entry_in (place_part k bs)) (range_with_len 0 n)
 
 -- The bytes are the records of what they say: at the front, in a place, and in each of the first n places.
 abbrev pub Opened : List ℕ → Type 0
-Opened bs = openingPart bs ≡ encode (Opening (ballotIn (openingPart bs)))
+Opened bs = opening_part bs ≡ encode (Opening (ballot_in (opening_part bs)))
 
 abbrev pub PlacedAt : ℕ → List ℕ → Type 0
-PlacedAt k bs = placePart k bs ≡ encode (Logged (entryIn (placePart k bs)))
+PlacedAt k bs = place_part k bs ≡ encode (Logged (entry_in (place_part k bs)))
 
 abbrev pub Placed : ℕ → List ℕ → Type 0
 Placed n bs = (k : ℕ) → k < n → PlacedAt k bs
@@ -55,8 +55,8 @@ Placed n bs = (k : ℕ) → k < n → PlacedAt k bs
 abbrev pub meant : (n durable : ℕ) → List ℕ → StoreState
 meant n durable bs =
     record {
-      term = (ballotIn (openingPart bs)).term;
-      vote = (ballotIn (openingPart bs)).vote;
+      term = (ballot_in (opening_part bs)).term;
+      vote = (ballot_in (opening_part bs)).vote;
       entries = entries_in n bs;
       durable = durable;
     }

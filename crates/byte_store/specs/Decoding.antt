@@ -11,18 +11,18 @@ use Rattle.record.specs.declared.kinds.Ballot.{Ballot}
 use Rattle.record.specs.declared.kinds.Record.TheVariants.{Opening, Logged}
 use Rattle.record.specs.Format.{two, four, word, encode, BallotFits, EntryFits}
 use Rattle.record.proofs.Bytes.{Bytes, of_two, of_four, quad_at}
-use Rattle.byte_store.specs.Bytes.{two_at, four_at, word_at, ballotIn, entryIn}
+use Rattle.byte_store.specs.Bytes.{two_at, four_at, word_at, ballot_in, entry_in}
 
-pub ballot_said : (b : Ballot) → BallotFits b → ballotIn (encode (Opening b)) ≡ b
-unfolding ballotIn encode two four
+pub ballot_said : (b : Ballot) → BallotFits b → ballot_in (encode (Opening b)) ≡ b
+unfolding ballot_in encode two four
 ballot_said b f = λ i. record { term = of_four b.term f.0 i; vote = of_two b.vote f.1 i }
 
 word_said : (z : ℤ) → FitsSigned w32 z → to_z w32 (quad_at (word z) 0) ≡ z
 unfolding word four
 word_said z f = ap (to_z w32) (of_four (of_z w32 z) (omega (arith, Fits-of_z f))) ∙ to_z-of_z w32 z f
 
-pub entry_said : (e : Entry) → EntryFits e → entryIn (encode (Logged e)) ≡ e
-unfolding entryIn encode two four word
+pub entry_said : (e : Entry) → EntryFits e → entry_in (encode (Logged e)) ≡ e
+unfolding entry_in encode two four word
 entry_said e f =
     λ i. record {
       term = of_four e.term f.0 i;
@@ -55,10 +55,10 @@ module _ (bs : List ℕ) (f : Bytes bs) where
   word_fits : (k : ℕ) → FitsSigned w32 (word_at k bs)
   word_fits k = let h : Fits w32 (four_at k bs) = omega (arith, four_fits k) in sfits_to_z h
 
-  pub ballot_fits : BallotFits (ballotIn bs)
-  unfolding ballotIn
+  pub ballot_fits : BallotFits (ballot_in bs)
+  unfolding ballot_in
   ballot_fits = (four_fits 4, two_fits 8)
 
-  pub entry_fits : EntryFits (entryIn bs)
-  unfolding entryIn
+  pub entry_fits : EntryFits (entry_in bs)
+  unfolding entry_in
   entry_fits = (four_fits 4, two_fits 8, word_fits 10, word_fits 14, word_fits 18, word_fits 22)

@@ -9,16 +9,16 @@ use Rattle.record.specs.Format.{encode}
 use Rattle.image.specs.Images.{image}
 use Rattle.image.specs.Images as images
 use Rattle.image.proofs.Writes as images-written
-use Rattle.byte_store.specs.Bytes.{openingPart, placePart, ballotIn, entryIn, entries_in, Opened, Placed}
+use Rattle.byte_store.specs.Bytes.{opening_part, place_part, ballot_in, entry_in, entries_in, Opened, Placed}
 
 abbrev entry_of : List ℕ → ℕ → Entry
-entry_of bs k = entryIn (placePart k bs)
+entry_of bs k = entry_in (place_part k bs)
 
 pub length_entries : (n : ℕ) (bs : List ℕ) → length (entries_in n bs) ≡ n
 unfolding entries_in
 length_entries n bs = length-map-range_with_len (entry_of bs) 0 n
 
-pub entry_at : (n : ℕ) (bs : List ℕ) (k : ℕ) (d : Entry) → k < n → slice_index_or (entries_in n bs) k d ≡ entryIn (placePart k bs)
+pub entry_at : (n : ℕ) (bs : List ℕ) (k : ℕ) (d : Entry) → k < n → slice_index_or (entries_in n bs) k d ≡ entry_in (place_part k bs)
 unfolding entries_in
 entry_at n bs k d h = get_or-map-range_with_len (entry_of bs) 0 n k k d h (omega arith)
 
@@ -26,27 +26,27 @@ pub take_entries : (n : ℕ) (bs : List ℕ) (k : ℕ) → k ≤ n → take k (e
 unfolding entries_in
 take_entries n bs k h = take-map-range_with_len (entry_of bs) 0 n k h
 
-pub entries_more : (n : ℕ) (bs : List ℕ) → entries_in (n + 1) bs ≡ entries_in n bs ++ entryIn (placePart n bs) ∷ []
+pub entries_more : (n : ℕ) (bs : List ℕ) → entries_in (n + 1) bs ≡ entries_in n bs ++ entry_in (place_part n bs) ∷ []
 unfolding entries_in
 entries_more n bs = map-range_with_len_more (entry_of bs) 0 n n (omega arith)
 
 -- the same bytes in the first places say the same entries
-pub same_entries : (n : ℕ) (bs out : List ℕ) → ((k : ℕ) → k < n → placePart k out ≡ placePart k bs) → entries_in n out ≡ entries_in n bs
+pub same_entries : (n : ℕ) (bs out : List ℕ) → ((k : ℕ) → k < n → place_part k out ≡ place_part k bs) → entries_in n out ≡ entries_in n bs
 unfolding entries_in
 same_entries n bs out h =
     fill_by_all (entry_of bs) (entries_in n out) n (entry_of bs 0) (length_entries n out)
-    (λ k l. entry_at n out k (entry_of bs 0) l ∙ ap entryIn (h k l))
+    (λ k l. entry_at n out k (entry_of bs 0) l ∙ ap entry_in (h k l))
 
 take_add : (bs : List ℕ) (i j : ℕ) → take (i + j) bs ≡ take i bs ++ take j (drop i bs)
 take_add bs i j =
     sym (take-append-drop i (take (i + j) bs)) ∙ (λ t. take-take i (i + j) bs (omega arith) t ++ drop-take i j bs t)
 
 -- the bytes in use are the image of what they say
-pub image_said : (n : ℕ) (bs : List ℕ) → Opened bs → Placed n bs → take (10 + 26 * n) bs ≡ image (ballotIn (openingPart bs)) (entries_in n bs)
-unfolding openingPart placePart entries_in
-image_said zero bs o p = o ∙ sym (append-nil (encode (Opening (ballotIn (openingPart bs)))))
+pub image_said : (n : ℕ) (bs : List ℕ) → Opened bs → Placed n bs → take (10 + 26 * n) bs ≡ image (ballot_in (opening_part bs)) (entries_in n bs)
+unfolding opening_part place_part entries_in
+image_said zero bs o p = o ∙ sym (append-nil (encode (Opening (ballot_in (opening_part bs)))))
 image_said (suc n) bs o p =
-    let b = ballotIn (openingPart bs) in
+    let b = ballot_in (opening_part bs) in
     ap (λ k. take k bs) (let s : 10 + 26 * suc n ≡ 10 + 26 * n + 26 = omega arith in s)
     ∙ take_add bs (10 + 26 * n) 26
     ∙ (λ i. image_said n bs o (λ k h. p k (omega arith)) i ++ p n (omega arith) i)

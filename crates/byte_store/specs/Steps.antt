@@ -8,14 +8,14 @@ use Rattle.record.specs.declared.kinds.Ballot.{Ballot}
 use Rattle.record.specs.declared.kinds.Record.TheVariants.{Opening, Logged}
 use Rattle.record.specs.Format.{encode, BallotFits, EntryFits}
 use Rattle.store.specs.Stores.{Sound, Crashed, cleared, voted, append_answer, appended, truncate_answer, truncated, synced, kept_by}
-use Rattle.byte_store.specs.Bytes.{openingPart, placePart, ballotIn, entryIn, entries_in, Opened, PlacedAt, Placed, meant}
+use Rattle.byte_store.specs.Bytes.{opening_part, place_part, ballot_in, entry_in, entries_in, Opened, PlacedAt, Placed, meant}
 use Rattle.byte_store.specs.Decoding.{ballot_said, entry_said}
 use Rattle.byte_store.specs.Writing.{opening_new, place_stays, opening_stays, place_before, place_new}
 use Rattle.byte_store.specs.Meaning.{length_entries, take_entries, entries_more, same_entries}
 
 -- the same bytes in a place are the record of what they say there
-placed_as : (k : ℕ) (bs out : List ℕ) → placePart k out ≡ placePart k bs → PlacedAt k bs → PlacedAt k out
-placed_as k bs out e p = subst (λ l. l ≡ encode (Logged (entryIn l))) (sym e) p
+placed_as : (k : ℕ) (bs out : List ℕ) → place_part k out ≡ place_part k bs → PlacedAt k bs → PlacedAt k out
+placed_as k bs out e p = subst (λ l. l ≡ encode (Logged (entry_in l))) (sym e) p
 
 -- the bytes as they are
 module _ (n d : ℕ) (bs : List ℕ) where
@@ -39,7 +39,7 @@ module _ (n d : ℕ) (bs : List ℕ) where
   cut_law k h =
       let t : nat_le k (length (entries_in n bs)) ≡ true = le-leb _ _ (omega (arith, length_entries n bs)) in (
         sym (cond-true _ _ _ t),
-        (λ i. record { term = (ballotIn (openingPart bs)).term; vote = (ballotIn (openingPart bs)).vote; entries = sym (take_entries n bs k h) i; durable = min_comm d k i })
+        (λ i. record { term = (ballot_in (opening_part bs)).term; vote = (ballot_in (opening_part bs)).vote; entries = sym (take_entries n bs k h) i; durable = min_comm d k i })
             ∙ sym (cond-true _ _ _ t),
       )
 
@@ -48,7 +48,7 @@ module _ (n d : ℕ) (bs : List ℕ) where
       record {
         low = low;
         high = omega (arith, length_entries n bs);
-        left = λ i. record { term = (ballotIn (openingPart bs)).term; vote = (ballotIn (openingPart bs)).vote; entries = sym (take_entries n bs c high) i; durable = c };
+        left = λ i. record { term = (ballot_in (opening_part bs)).term; vote = (ballot_in (opening_part bs)).vote; entries = sym (take_entries n bs c high) i; durable = c };
       }
 
   pub kept_law : (wish r : ℕ) → r ≡ min wish (n - d) → d + r ≡ kept_by wish (meant n d bs)
@@ -56,8 +56,8 @@ module _ (n d : ℕ) (bs : List ℕ) where
 
 -- after a write of the opening record
 module _ (bs out : List ℕ) (b : Ballot) (fits : BallotFits b) (e : out ≡ encode (Opening b) ++ drop 10 bs) where
-  said_ballot : ballotIn (openingPart out) ≡ b
-  said_ballot = ap ballotIn (opening_new bs out b e) ∙ ballot_said b fits
+  said_ballot : ballot_in (opening_part out) ≡ b
+  said_ballot = ap ballot_in (opening_new bs out b e) ∙ ballot_said b fits
 
   pub opened_law : Opened out
   opened_law = opening_new bs out b e ∙ ap (λ x. encode (Opening x)) (sym said_ballot)
@@ -75,11 +75,11 @@ module _ (bs out : List ℕ) (b : Ballot) (fits : BallotFits b) (e : out ≡ enc
 
 -- after a write of an entry's record behind the others
 module _ (bs out rest : List ℕ) (n : ℕ) (x : Entry) (fits : EntryFits x) (long : 10 + 26 * n ≤ length bs) (e : out ≡ take (10 + 26 * n) bs ++ (encode (Logged x) ++ rest)) where
-  said_entry : entryIn (placePart n out) ≡ x
-  said_entry = ap entryIn (place_new bs out rest n x long e) ∙ entry_said x fits
+  said_entry : entry_in (place_part n out) ≡ x
+  said_entry = ap entry_in (place_new bs out rest n x long e) ∙ entry_said x fits
 
   pub opened_stays : Opened bs → Opened out
-  opened_stays o = subst (λ l. l ≡ encode (Opening (ballotIn l))) (sym (opening_stays bs out rest n x long e)) o
+  opened_stays o = subst (λ l. l ≡ encode (Opening (ballot_in l))) (sym (opening_stays bs out rest n x long e)) o
 
   pub placed_more : Placed n bs → Placed (n + 1) out
   placed_more p =
@@ -93,5 +93,5 @@ module _ (bs out rest : List ℕ) (n : ℕ) (x : Entry) (fits : EntryFits x) (lo
       let more : entries_in (n + 1) out ≡ entries_in n bs ++ (x ∷ []) =
       entries_more n out ∙ (λ i. same_entries n bs out (place_before bs out rest n x long e) i ++ (said_entry i ∷ [])) in (
         sym (cond-true _ _ _ t),
-        (λ i. record { term = (ballotIn (o i)).term; vote = (ballotIn (o i)).vote; entries = more i; durable = d }) ∙ sym (cond-true _ _ _ t),
+        (λ i. record { term = (ballot_in (o i)).term; vote = (ballot_in (o i)).vote; entries = more i; durable = d }) ∙ sym (cond-true _ _ _ t),
       )

@@ -3,7 +3,7 @@ use Rattle.std.proofs.Common.{◌≡◌, ℕ, ◌-◌, ◌<◌, min, Bool, true,
 use mathlib.Core.Path.{fun_ext}
 use Rattle.std.proofs.lemmas.List.{length-map, get_or-map, map-set}
 use Rattle.std.proofs.lemmas.Bool.{cond-false, le-ltb}
-use Rattle.machine.specs.States.{applied, undoneTimes}
+use Rattle.machine.specs.States.{applied, undone_times}
 use Rattle.protocol.specs.declared.ServerId.{ServerId}
 use Rattle.protocol.specs.declared.Message.{Message}
 use Rattle.protocol.specs.ServerIds.{numbered, put}
@@ -44,8 +44,8 @@ module _ {X : Type 0} (K : Machine X) where
   moved_same s ms =
       let z : s.applied - s.applied ≡ 0 = omega arith in
       let y : min s.applied s.commit - min s.applied s.commit ≡ 0 = omega arith in
-      let a : cond (ltb s.applied s.applied) (applied K.opening K.next (at s.log s.applied).edit ms) (undoneTimes (s.applied - s.applied) ms) ≡ ms =
-      cond-false (ltb s.applied s.applied) _ _ (le-ltb _ _ (omega arith)) ∙ ap (λ n. undoneTimes n ms) z in
+      let a : cond (ltb s.applied s.applied) (applied K.opening K.next (at s.log s.applied).edit ms) (undone_times (s.applied - s.applied) ms) ≡ ms =
+      cond-false (ltb s.applied s.applied) _ _ (le-ltb _ _ (omega arith)) ∙ ap (λ n. undone_times n ms) z in
       cond-false (s.up && not s.up) _ _ (not_both s.up) ∙ (ap (settled_times (min s.applied s.commit - min s.applied s.commit)) a ∙ ap (λ n. settled_times n ms) y)
 
   module _ {A : Type 0} (view : A → State) (states : A → List X) (xs : List A) (p : List Message) where

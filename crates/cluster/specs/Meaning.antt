@@ -5,7 +5,7 @@ use Rattle.protocol.specs.declared.ServerId.TheVariants.{One}
 use Rattle.protocol.specs.declared.Message.{Message}
 use Rattle.protocol.specs.State.{Server as State, Machine, Cluster as Model, core_opening}
 use Rattle.node.specs.Meaning.{of3}
-use Rattle.server.specs.Turns.{state_of, statesOf}
+use Rattle.server.specs.Turns.{state_of, states_of}
 use Rattle.cluster.specs.declared.state.Cluster.{Cluster}
 
 -- a server as it opens
@@ -20,4 +20,4 @@ model K view states xs p = record {
 }
 
 abbrev pub cluster_of : {S M X : Type 0} → (S → StoreState) → (M → List X) → Machine X → Cluster S M → Model X
-cluster_of meaning states K c = model K (state_of meaning states) (statesOf meaning states) (vec_items c.servers) (vec_items c.network.messages)
+cluster_of meaning states K c = model K (state_of meaning states) (states_of meaning states) (vec_items c.servers) (vec_items c.network.messages)

@@ -5,7 +5,7 @@ use Rattle.record.specs.declared.entry.Entry.{Entry}
 use Rattle.record.specs.declared.kinds.Ballot.{Ballot}
 use Rattle.record.specs.declared.kinds.Record.{Record}
 use Rattle.record.specs.declared.kinds.Record.TheVariants.{Opening, Logged}
-use Rattle.record.specs.Format.{two, four, word, encode, faultAt}
+use Rattle.record.specs.Format.{two, four, word, encode, fault_at}
 use Rattle.record.proofs.Back.{unambiguous, never_refused}
 use Rattle.image.specs.declared.fault.ImageFault.{ImageFault}
 use Rattle.image.specs.declared.fault.ImageFault.TheVariants.{InRecord, TooMany, OutOfRange}
@@ -16,14 +16,14 @@ use Rattle.image.specs.Images.{AtFault, Right, Reads, ends, wrong, right, after}
 module _ (rule : Record → Option ImageFault) (off : ℕ) (bs : List ℕ) where
   pub one_fault : (d e : ImageFault) → AtFault rule off bs d → AtFault rule off bs e → d ≡ e
   one_fault d e (inl (f, p, q)) (inl (g, s, t)) = q ∙ ap InRecord (some_back (sym p ∙ s)) ∙ sym t
-  one_fault d e (inl (f, p, q)) (inr (r, rest, h, s, t)) = absurd (some_none (sym p ∙ ap (faultAt off) s ∙ never_refused r rest off))
-  one_fault d e (inr (r, rest, h, s, t)) (inl (f, p, q)) = absurd (some_none (sym p ∙ ap (faultAt off) s ∙ never_refused r rest off))
+  one_fault d e (inl (f, p, q)) (inr (r, rest, h, s, t)) = absurd (some_none (sym p ∙ ap (fault_at off) s ∙ never_refused r rest off))
+  one_fault d e (inr (r, rest, h, s, t)) (inl (f, p, q)) = absurd (some_none (sym p ∙ ap (fault_at off) s ∙ never_refused r rest off))
   one_fault d e (inr (r, rest, h, s, t)) (inr (r', rest', h', s', t')) =
       let u = unambiguous r r' rest rest' h h' (sym s ∙ s') in
       some_back (sym t ∙ ap rule u.0 ∙ t')
 
   pub not_both : (e : ImageFault) (r : Record) (rest : List ℕ) → AtFault rule off bs e → Right rule bs r rest → ⊥
-  not_both e r rest (inl (f, p, q)) (h, s, t) = some_none (sym p ∙ ap (faultAt off) s ∙ never_refused r rest off)
+  not_both e r rest (inl (f, p, q)) (h, s, t) = some_none (sym p ∙ ap (fault_at off) s ∙ never_refused r rest off)
   not_both e r rest (inr (r', rest', h', s', t')) (h, s, t) =
       let u = unambiguous r r' rest rest' h h' (sym s ∙ s') in
       some_none (sym t' ∙ ap rule (sym u.0) ∙ t)

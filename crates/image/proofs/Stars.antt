@@ -3,14 +3,14 @@ use Rattle.std.proofs.Common.{[], Ok, refl, subst, inl, append-nil, arith}
 use Rattle.std.proofs.lemmas.Bool.{le-leb, and_from}
 use Rattle.record.specs.declared.kinds.Record.TheVariants.{Opening}
 use Rattle.record.specs.declared.fault.RecordFault.TheVariants.{Field}
-use Rattle.record.specs.Format.{encode, faultAt}
+use Rattle.record.specs.Format.{encode, fault_at}
 use Rattle.image.specs.declared.fault.ImageFault.TheVariants.{InRecord}
 use Rattle.image.specs.Images.{ImageRead, wrong_first}
 use Rattle.image.specs.Starred.{Refuses, Starred}
 use Rattle.image.proofs.Back.{reads_back}
 
 empty : Refuses [] 21 0
-unfolding faultAt
+unfolding fault_at
 empty = (InRecord (Field (record { offset = 0 })), wrong_first _ (inl (_, refl, refl)) refl, refl, refl)
 
 pub starred : Starred

@@ -6,7 +6,7 @@ use Rattle.record.specs.declared.kinds.Ballot.{Ballot}
 use Rattle.record.specs.declared.kinds.Record.{Record}
 use Rattle.record.specs.declared.kinds.Record.TheVariants.{Opening, Logged}
 use Rattle.record.specs.declared.fault.RecordFault.{RecordFault}
-use Rattle.record.specs.Format.{encode, Fitting, faultAt}
+use Rattle.record.specs.Format.{encode, Fitting, fault_at}
 use Rattle.image.specs.declared.contents.Contents.{Contents}
 use Rattle.image.specs.declared.fault.ImageFault.{ImageFault}
 use Rattle.image.specs.declared.fault.ImageFault.TheVariants.{InRecord}
@@ -23,7 +23,7 @@ image b es = encode (Opening b) ++ entries_in es
 -- The record that the bytes begin with is at fault: it cannot be read, or it breaks a rule.
 abbrev pub AtFault : (Record → Option ImageFault) → (offset : ℕ) → List ℕ → ImageFault → Type 0
 AtFault rule off bs e =
-    ((f : RecordFault) × (faultAt off bs ≡ Some f) × (e ≡ InRecord f))
+    ((f : RecordFault) × (fault_at off bs ≡ Some f) × (e ≡ InRecord f))
     ⊎ ((r : Record) × (rest : List ℕ) × Fitting r × (bs ≡ encode r ++ rest) × (rule r ≡ Some e))
 
 -- The bytes begin with a record that breaks no rule, and the rest follows.

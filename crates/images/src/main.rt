@@ -1,4 +1,5 @@
 // A script of stores and their images, read into each of the three kinds of store.
+#![tactic(auto)]
 mod command;
 mod compare;
 

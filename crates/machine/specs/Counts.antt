@@ -6,7 +6,7 @@ use Rattle.std.proofs.lemmas.Bool.{lt-ltb, le-ltb, cond-true, cond-false}
 use Rattle.refusal.specs.declared.Refusal.TheVariants.{OutOfBounds}
 use Rattle.refusal.specs.Numbers.{told}
 use Rattle.sheet.specs.declared.types.Edit.{Edit}
-use Rattle.machine.specs.States.{Counted, newest, apply_answer, applied, dropAnswer, undone, settled, read_answer}
+use Rattle.machine.specs.States.{Counted, newest, apply_answer, applied, drop_answer, undone, settled, read_answer}
 
 module _ {X : Type 0} (xs : List X) (n : ℕ) (l : length xs ≡ n + 1) where
   pub counted : n ≤ 16 → Counted xs
@@ -36,10 +36,10 @@ module _ {X : Type 0} (xs : List X) (n : ℕ) (l : length xs ≡ n + 1) where
   pub applied_same : (opening : X) (next : X → Edit → X) (e : Edit) → 16 ≤ n → xs ≡ applied opening next e xs
   applied_same opening next e h = sym (cond-false _ _ _ (full h))
 
-  pub drop_told : 0 < n → Ok tt ≡ dropAnswer xs
+  pub drop_told : 0 < n → Ok tt ≡ drop_answer xs
   drop_told h = sym (cond-true _ _ _ (several h))
 
-  pub drop_refused : n ≡ 0 → Err 15 ≡ dropAnswer xs
+  pub drop_refused : n ≡ 0 → Err 15 ≡ drop_answer xs
   drop_refused h = sym (cond-false _ _ _ (alone h))
 
   pub undone_is : 0 < n → drop 1 xs ≡ undone xs

@@ -17,8 +17,8 @@ steps_back s [] = s ∷ []
 steps_back s (u ∷ us) = s ∷ steps_back (put_back s u) us
 
 -- The undo machine has the newest sheet and the replaced rows, oldest first.
-unfoldable pub undoStates : UndoMachine → List (List (List ℕ))
-undoStates m = steps_back (cells_of m.newest) (reverse (vec_items m.replaced))
+unfoldable pub undo_states : UndoMachine → List (List (List ℕ))
+undo_states m = steps_back (cells_of m.newest) (reverse (vec_items m.replaced))
 
 -- the states after some edits more
 abbrev pub steps_on : List (List (List ℕ)) → List Edit → List (List (List ℕ))
@@ -27,5 +27,5 @@ steps_on (s ∷ ss) [] = s ∷ ss
 steps_on (s ∷ ss) (e ∷ es) = steps_on (next s e ∷ s ∷ ss) es
 
 -- The replay machine has the oldest sheet and the open edits, oldest first.
-unfoldable pub replayStates : ReplayMachine → List (List (List ℕ))
-replayStates m = steps_on (cells_of m.oldest ∷ []) (vec_items m.edits)
+unfoldable pub replay_states : ReplayMachine → List (List (List ℕ))
+replay_states m = steps_on (cells_of m.oldest ∷ []) (vec_items m.edits)

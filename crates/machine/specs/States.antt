@@ -22,8 +22,8 @@ module _ {X : Type 0} where
   applied opening next e xs = cond (nat_lt (length xs) 17) (next (newest opening xs) e ∷ xs) xs
 
   -- Undoing drops the newest state and settling drops the oldest; both are refused only where one is left.
-  abbrev pub dropAnswer : List X → Result (Unit {0}) ℕ
-  dropAnswer xs = cond (nat_lt 1 (length xs)) (Ok tt) (Err 15)
+  abbrev pub drop_answer : List X → Result (Unit {0}) ℕ
+  drop_answer xs = cond (nat_lt 1 (length xs)) (Ok tt) (Err 15)
 
   abbrev pub undone : List X → List X
   undone xs = cond (nat_lt 1 (length xs)) (drop 1 xs) xs
@@ -32,13 +32,13 @@ module _ {X : Type 0} where
   settled xs = cond (nat_lt 1 (length xs)) (take (length xs - 1) xs) xs
 
   -- Several moves, one after the other; those that are refused change nothing.
-  abbrev pub appliedAll : X → (X → Edit → X) → List Edit → List X → List X
-  appliedAll opening next [] xs = xs
-  appliedAll opening next (e ∷ es) xs = appliedAll opening next es (applied opening next e xs)
+  abbrev pub applied_all : X → (X → Edit → X) → List Edit → List X → List X
+  applied_all opening next [] xs = xs
+  applied_all opening next (e ∷ es) xs = applied_all opening next es (applied opening next e xs)
 
-  abbrev pub undoneTimes : ℕ → List X → List X
-  undoneTimes zero xs = xs
-  undoneTimes (suc k) xs = undone (undoneTimes k xs)
+  abbrev pub undone_times : ℕ → List X → List X
+  undone_times zero xs = xs
+  undone_times (suc k) xs = undone (undone_times k xs)
 
 -- Reading tells a cell, and is refused only where there is no such cell.
 abbrev pub read_answer : Option ℕ → Result ℕ ℕ

@@ -2,7 +2,7 @@
 ghost use Rattle.std.specs.Prelude.{◌≡◌, ℕ, List, [], ◌∷◌, ℤ, Option};
 ghost use Rattle.refusal.specs.Numbers.{told};
 ghost use Rattle.sheet.specs.declared.types.Edit.{Edit as TheEdit};
-ghost use Rattle.machine.specs.States.{Counted, newest, apply_answer, applied, dropAnswer, undone, settled, read_answer};
+ghost use Rattle.machine.specs.States.{Counted, newest, apply_answer, applied, drop_answer, undone, settled, read_answer};
 
 use refusal::Refusal;
 use sheet::Edit;
@@ -26,12 +26,12 @@ pub trait StateMachine {
 
     // Drops the newest state.
     fn undo(&mut self) -> Result<(), Refusal>
-        ensures answer { told result ≡ dropAnswer (states self.old) }
+        ensures answer { told result ≡ drop_answer (states self.old) }
         ensures after { states self.new ≡ undone (states self.old) };
 
     // Drops the oldest state.
     fn settle(&mut self) -> Result<(), Refusal>
-        ensures answer { told result ≡ dropAnswer (states self.old) }
+        ensures answer { told result ≡ drop_answer (states self.old) }
         ensures after { states self.new ≡ settled (states self.old) };
 
     // Leaves only the opening state.

@@ -16,8 +16,8 @@ abbrev pub of3 : {A : Type 0} → A → List A → ServerId → A
 of3 d xs k = slice_index_or xs (place k) d
 
 module _ {S : Type 0} (meaning : S → StoreState) where
-  abbrev pub serverOf : Node S → Server
-  serverOf n = record {
+  abbrev pub server_of : Node S → Server
+  server_of n = record {
     up = n.up;
     term = (meaning n.store).term;
     vote = (meaning n.store).vote;
@@ -33,4 +33,4 @@ module _ {S : Type 0} (meaning : S → StoreState) where
 
   -- the node goes from n to n' as f says
   abbrev pub Goes : Node S → (Server → Server) → Node S → Type 0
-  Goes n f n' = serverOf n' ≡ f (serverOf n)
+  Goes n f n' = server_of n' ≡ f (server_of n)

@@ -2,7 +2,7 @@
 ghost use Rattle.std.specs.Prelude.{◌≡◌, ◌<◌, false};
 ghost use Rattle.refusal.specs.Numbers.{told};
 ghost use Rattle.protocol.specs.Elections.{taken, caught_up, stands as stoodFor, campaigns, not_below, vote_request, may_vote, grants, votes_for, hears_vote_request, vote_reply, counts, two_of, wins, tallied, hears_vote_reply};
-ghost use Rattle.node.specs.Meaning.{serverOf, Goes, of3};
+ghost use Rattle.node.specs.Meaning.{server_of, Goes, of3};
 ghost use Rattle.node.specs.Campaigns.{stand_answer};
 
 use crate::Node;
@@ -65,7 +65,7 @@ impl<S: Store + Drop> Node<S> {
     }
 
     fn vote_request(&self, me: ServerId, receiver: ServerId) -> Message
-        ensures { result ≡ vote_request me (serverOf S.Store.meaning self.now) receiver }
+        ensures { result ≡ vote_request me (server_of S.Store.meaning self.now) receiver }
     {
         Message {
             from: me,
@@ -77,7 +77,7 @@ impl<S: Store + Drop> Node<S> {
 
     // Takes the next term and stands in it, with two vote requests.
     pub fn campaign(&mut self, me: ServerId) -> Result<(Message, Message), Refusal>
-        ensures says { told result ≡ stand_answer me (serverOf S.Store.meaning self.old) }
+        ensures says { told result ≡ stand_answer me (server_of S.Store.meaning self.old) }
         ensures after { Goes S.Store.meaning self.old (campaigns me) self.new }
     {
         if !self.up {
@@ -98,7 +98,7 @@ impl<S: Store + Drop> Node<S> {
     }
 
     fn grants(&self, from: ServerId, term: u32, pair: (u32, u32)) -> bool
-        ensures { result ≡ grants (serverOf S.Store.meaning self.now) from term pair }
+        ensures { result ≡ grants (server_of S.Store.meaning self.now) from term pair }
     {
         term == self.store.term()
             && (may_vote(self.store.vote(), from) && not_below(pair, self.pair()))
@@ -119,8 +119,8 @@ impl<S: Store + Drop> Node<S> {
         term: u32,
         pair: (u32, u32),
     ) -> Message
-        ensures after { serverOf S.Store.meaning self.new ≡ hears_vote_request (serverOf S.Store.meaning self.old) from term pair }
-        ensures says { result ≡ vote_reply (serverOf S.Store.meaning self.old) from to term pair }
+        ensures after { server_of S.Store.meaning self.new ≡ hears_vote_request (server_of S.Store.meaning self.old) from term pair }
+        ensures says { result ≡ vote_reply (server_of S.Store.meaning self.old) from to term pair }
     {
         let own = self.store.term();
         if self.grants(from, term, pair) {
@@ -167,7 +167,7 @@ impl<S: Store + Drop> Node<S> {
     }
 
     pub fn hear_vote_reply(&mut self, from: ServerId, term: u32, ok: bool)
-        ensures { serverOf S.Store.meaning self.new ≡ hears_vote_reply (serverOf S.Store.meaning self.old) from term ok }
+        ensures { server_of S.Store.meaning self.new ≡ hears_vote_reply (server_of S.Store.meaning self.old) from term ok }
     {
         if ok && (term == self.store.term() && stands(self.role)) {
             self.tally(from);

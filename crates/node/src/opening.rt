@@ -2,7 +2,7 @@
 ghost use Rattle.std.specs.Prelude.{◌≡◌};
 ghost use Rattle.protocol.specs.declared.ServerId.TheVariants.{One};
 ghost use Rattle.protocol.specs.State.{core_opening};
-ghost use Rattle.node.specs.Meaning.{serverOf};
+ghost use Rattle.node.specs.Meaning.{server_of};
 
 use crate::Node;
 use protocol::Role;
@@ -11,7 +11,7 @@ use store::Store;
 impl<S: Store + Drop> Node<S> {
     // Clears the store. Every server opens alike.
     pub fn open(mut store: S) -> Self
-        ensures { serverOf S.Store.meaning result ≡ core_opening.server One }
+        ensures { server_of S.Store.meaning result ≡ core_opening.server One }
     {
         store.clear();
         Node {

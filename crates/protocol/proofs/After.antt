@@ -14,7 +14,7 @@ use Rattle.protocol.proofs.Parts.{caught_in, heard_in}
 use Rattle.protocol.proofs.Shelf.{pre_none, put2_here, same_self, apart12, apart13, apart23}
 use Rattle.protocol.proofs.Frame.{message_grown}
 use Rattle.protocol.proofs.Votes.{none_some}
-use Rattle.protocol.proofs.Campaign.{stood-hist, stood_grown, stood_inv, U₀}
+use Rattle.protocol.proofs.Campaign.{stood_hist, stood_grown, stood_inv, U₀}
 use Rattle.protocol.proofs.Propose.{more_inv, more_grown}
 use Rattle.protocol.proofs.Still.{stops_inv, starts_inv, applies_inv}
 use Rattle.protocol.proofs.Next.{Next, stay, reached, next_then, split, posted_inv, without_inv}
@@ -43,7 +43,7 @@ deliver_next : {g : Hist} {w : Core} → Inv g w → (l : Message) → MessageOk
 deliver_next inv l o = next_then (caught_next inv l.to l.term)
     (λ h G i. let p = message_grown inv.hist G l o in heard_next i l.from l.to p.apart l.term l.body p.body)
 
-request_ok : {g : Hist} {w : Core} (inv : Inv g w) (j r : ServerId) → (j ≡ r → ⊥) → MessageOk (stood-hist inv j) (vote_request j (stands j (w.server j)) r)
+request_ok : {g : Hist} {w : Core} (inv : Inv g w) (j r : ServerId) → (j ≡ r → ⊥) → MessageOk (stood_hist inv j) (vote_request j (stands j (w.server j)) r)
 request_ok {g} {w} inv j r n =
     let e = put2_here g.stood j (U₀ inv j) (w.server j).log in
     record {

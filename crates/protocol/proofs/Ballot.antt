@@ -20,10 +20,10 @@ module _ {g : Hist} {w : Core} (inv : Inv g w) (j c : ServerId) (n : c ≡ j →
   abbrev pub T₁ : ℕ
   T₁ = (w.server j).term
 
-  abbrev pub vote-hist : Hist
-  vote-hist = record { leads = g.leads; log = g.log; voted = put2 g.voted j T₁ (Some c); stood = g.stood; ack = g.ack }
+  abbrev pub vote_hist : Hist
+  vote_hist = record { leads = g.leads; log = g.log; voted = put2 g.voted j T₁ (Some c); stood = g.stood; ack = g.ack }
 
-  pub vote_grown : Grown g vote-hist
+  pub vote_grown : Grown g vote_hist
   vote_grown = record {
     leads = λ T d e. e;
     log = (grown_refl g).log;
@@ -32,20 +32,20 @@ module _ {g : Hist} {w : Core} (inv : Inv g w) (j c : ServerId) (n : c ≡ j →
     ack = λ q T. omega arith;
   }
 
-  vote_hist_ok : HistOk vote-hist
+  vote_hist_ok : HistOk vote_hist
   vote_hist_ok = record {
     logs = λ T. sound_grown vote_grown (suc T) (g.log T) (inv.hist.logs T);
     stoods = λ d T. sound_grown vote_grown T (g.stood d T) (inv.hist.stoods d T);
     grew = inv.hist.grew;
     led = inv.hist.led;
     elected = λ T d e. let v = inv.hist.elected T d e in (v.0, v.1, vote_grown.voted v.0 T d v.2);
-    self = put2_all g.voted j T₁ (Some c) (λ v T x. (d : ServerId) → x ≡ Some d → vote-hist.voted d T ≡ Some d)
+    self = put2_all g.voted j T₁ (Some c) (λ v T x. (d : ServerId) → x ≡ Some d → vote_hist.voted d T ≡ Some d)
         (λ d e. let z : d ≡ c = cc in rw z (vote_grown.voted c T₁ c own))
         (λ v T off d e. vote_grown.voted d T d (inv.hist.self v T d e));
     acks = inv.hist.acks;
   }
 
-  vote_ok : Ok vote-hist j (votes_for c (w.server j))
+  vote_ok : Ok vote_hist j (votes_for c (w.server j))
   vote_ok =
       let o = inv.each j in
       record {
@@ -58,13 +58,13 @@ module _ {g : Hist} {w : Core} (inv : Inv g w) (j c : ServerId) (n : c ≡ j →
         unacked = o.unacked;
         ack_durable = o.ack_durable;
         ack_pre = o.ack_pre;
-        role = role_alike vote-hist j (record { term = refl; log = refl; durable = refl; next = refl; match = refl; voters = refl }) (w.server j).role
+        role = role_alike vote_hist j (record { term = refl; log = refl; durable = refl; next = refl; match = refl; voters = refl }) (w.server j).role
             (role_grown vote_grown j (w.server j) (λ U e. e) (λ U e. refl) (λ U. refl) (w.server j).role o.role);
         commit = λ z. settled_grown inv.hist vote_grown (o.commit z);
         machine = record { within = o.machine.within; ahead = o.machine.ahead };
       }
 
-  vote_other : (k : ServerId) → (k ≡ j → ⊥) → Apart g vote-hist k
+  vote_other : (k : ServerId) → (k ≡ j → ⊥) → Apart g vote_hist k
   vote_other k m = record {
     voted = λ V. put2_there g.voted j T₁ (Some c) k V (λ h. m h.0);
     ack = λ V. refl;
@@ -88,7 +88,7 @@ module _ {g : Hist} {w : Core} (inv : Inv g w) (j c : ServerId) (n : c ≡ j →
       elim above [ inl z ↦ inl (omega arith) | inr z ↦ inr (omega arith, omega arith) ] in
       fresh_log inv T i j t T₁ b (inv.hist.stoods c T₁) y.0 y.1 x.0 x.1 p
 
-  votes₁ : (V : ℕ) (d : ServerId) → vote-hist.voted j V ≡ Some d
+  votes₁ : (V : ℕ) (d : ServerId) → vote_hist.voted j V ≡ Some d
       → (g.voted j V ≡ Some d) ⊎ ((T i : ℕ) → Tied g w.server T i j → T < V → Pre (suc i) (g.stood d V) (g.log T))
   votes₁ V d e = elim (cases_eq V T₁) [
     | inl z ↦ inr (λ T i t l.
@@ -97,7 +97,7 @@ module _ {g : Hist} {w : Core} (inv : Inv g w) (j c : ServerId) (n : c ≡ j →
     | inr m ↦ inl (sym (put2_there g.voted j T₁ (Some c) j V (λ h. m h.1)) ∙ e)
   ]
 
-  pub vote_inv : Inv vote-hist (change w j (votes_for c (w.server j)))
+  pub vote_inv : Inv vote_hist (change w j (votes_for c (w.server j)))
   vote_inv = change_inv inv (record {
     grown = vote_grown;
     hist = vote_hist_ok;

@@ -32,8 +32,8 @@ module _ {g : Hist} {w : Core} (inv : Inv g w) (j : ServerId) where
   abbrev pub U₀ : ℕ
   U₀ = suc (w.server j).term
 
-  abbrev pub stood-hist : Hist
-  stood-hist = record {
+  abbrev pub stood_hist : Hist
+  stood_hist = record {
     leads = g.leads;
     log = g.log;
     voted = put2 g.voted j U₀ (Some j);
@@ -44,7 +44,7 @@ module _ {g : Hist} {w : Core} (inv : Inv g w) (j : ServerId) where
   unvoted₀ : g.voted j U₀ ≡ None
   unvoted₀ = (inv.each j).unvoted U₀ (omega arith)
 
-  pub stood_grown : Grown g stood-hist
+  pub stood_grown : Grown g stood_hist
   stood_grown = record {
     leads = λ T c e. e;
     log = (grown_refl g).log;
@@ -56,10 +56,10 @@ module _ {g : Hist} {w : Core} (inv : Inv g w) (j : ServerId) where
   unled₀ : g.leads U₀ ≡ Some j → ⊥
   unled₀ e = let v = inv.hist.elected U₀ j e in none_some unvoted₀ (inv.hist.self v.0 U₀ j v.2)
 
-  stood_hist_ok : HistOk stood-hist
+  stood_hist_ok : HistOk stood_hist
   stood_hist_ok = record {
     logs = λ T. sound_grown stood_grown (suc T) (g.log T) (inv.hist.logs T);
-    stoods = put2_all g.stood j U₀ (w.server j).log (λ c T l. Sound stood-hist T l)
+    stoods = put2_all g.stood j U₀ (w.server j).log (λ c T l. Sound stood_hist T l)
         (sound_grown stood_grown U₀ (w.server j).log (inv.each j).log)
         (λ c T off. sound_grown stood_grown T (g.stood c T) (inv.hist.stoods c T));
     grew = λ T c. put2_all g.stood j U₀ (w.server j).log (λ c T l. g.leads T ≡ Some c → Pre (length l) l (g.log T))
@@ -67,18 +67,18 @@ module _ {g : Hist} {w : Core} (inv : Inv g w) (j : ServerId) where
         (λ c T off e. inv.hist.grew T c e) c T;
     led = inv.hist.led;
     elected = λ T c e. let v = inv.hist.elected T c e in (v.0, v.1, stood_grown.voted v.0 T c v.2);
-    self = put2_all g.voted j U₀ (Some j) (λ v T x. (c : ServerId) → x ≡ Some c → stood-hist.voted c T ≡ Some c)
+    self = put2_all g.voted j U₀ (Some j) (λ v T x. (c : ServerId) → x ≡ Some c → stood_hist.voted c T ≡ Some c)
         (λ c e. let z : c ≡ j = cc in rw z (put2_here g.voted j U₀ (Some j)))
         (λ v T off c e. stood_grown.voted c T c (inv.hist.self v T c e));
     acks = inv.hist.acks;
   }
 
-  stood_ok : Ok stood-hist j (stands j (w.server j))
+  stood_ok : Ok stood_hist j (stands j (w.server j))
   stood_ok =
       let o = inv.each j in
       let none : g.ack j U₀ ≡ 0 = o.unacked U₀ (omega arith) in
       record {
-        log = sound_less stood-hist U₀ (suc U₀) (w.server j).log (omega arith) (sound_grown stood_grown U₀ (w.server j).log o.log);
+        log = sound_less stood_hist U₀ (suc U₀) (w.server j).log (omega arith) (sound_grown stood_grown U₀ (w.server j).log o.log);
         durable = o.durable;
         vote = ap vote_of (put2_here g.voted j U₀ (Some j));
         unvoted = λ V l. put2_there g.voted j U₀ (Some j) j V (λ h. omega (arith, h.1)) ∙ o.unvoted V (omega arith);
@@ -98,7 +98,7 @@ module _ {g : Hist} {w : Core} (inv : Inv g w) (j : ServerId) where
         machine = applied_low (omega (arith, o.machine.within)) (omega arith);
       }
 
-  stood_other : (k : ServerId) → (k ≡ j → ⊥) → Apart g stood-hist k
+  stood_other : (k : ServerId) → (k ≡ j → ⊥) → Apart g stood_hist k
   stood_other k n = record {
     voted = λ V. put2_there g.voted j U₀ (Some j) k V (λ h. n h.0);
     ack = λ V. refl;
@@ -108,7 +108,7 @@ module _ {g : Hist} {w : Core} (inv : Inv g w) (j : ServerId) where
     log = λ V e. refl;
   }
 
-  pub stood_inv : Inv stood-hist (change w j (stands j (w.server j)))
+  pub stood_inv : Inv stood_hist (change w j (stands j (w.server j)))
   stood_inv = change_inv inv (record {
     grown = stood_grown;
     hist = stood_hist_ok;
@@ -120,8 +120,8 @@ module _ {g : Hist} {w : Core} (inv : Inv g w) (j : ServerId) where
     votes = λ V. put_t_votes V;
   })
     where
-      put_t_votes : (V : ℕ) (c : ServerId) → stood-hist.voted j V ≡ Some c
-          → (g.voted j V ≡ Some c) ⊎ ((T i : ℕ) → Tied g w.server T i j → T < V → Pre (suc i) (stood-hist.stood c V) (g.log T))
+      put_t_votes : (V : ℕ) (c : ServerId) → stood_hist.voted j V ≡ Some c
+          → (g.voted j V ≡ Some c) ⊎ ((T i : ℕ) → Tied g w.server T i j → T < V → Pre (suc i) (stood_hist.stood c V) (g.log T))
       put_t_votes V c e = elim (cases_eq V U₀) [
         | inl z ↦ inr (λ T i t l.
             let y : c ≡ j = some_same e (rw z (put2_here g.voted j U₀ (Some j))) in

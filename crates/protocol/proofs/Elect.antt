@@ -40,8 +40,8 @@ module _ {g : Hist} {w : Core} (inv : Inv g w) (j v : ServerId) (n : v ≡ j →
   bare = elim (cases_lt 0 (length (g.log T₂)))
       [ inl l ↦ let d = inv.hist.led T₂ l in absurd (only d.0 d.1) | inr l ↦ omega arith ]
 
-  abbrev pub won-hist : Hist
-  won-hist = record {
+  abbrev pub won_hist : Hist
+  won_hist = record {
     leads = put_t g.leads T₂ (Some j);
     log = put_t g.log T₂ L₂;
     voted = g.voted;
@@ -49,7 +49,7 @@ module _ {g : Hist} {w : Core} (inv : Inv g w) (j v : ServerId) (n : v ≡ j →
     ack = put2 g.ack j T₂ (w.server j).durable;
   }
 
-  pub won_grown : Grown g won-hist
+  pub won_grown : Grown g won_hist
   won_grown = record {
     leads = λ U c. put_t_all g.leads T₂ (Some j) (λ U x. g.leads U ≡ Some c → x ≡ Some c)
         (λ e. absurd (only c e)) (λ U m e. e) U;
@@ -61,45 +61,45 @@ module _ {g : Hist} {w : Core} (inv : Inv g w) (j v : ServerId) (n : v ≡ j →
         (omega (arith, inv.hist.acks j T₂, bare)) (λ q U off. omega arith);
   }
 
-  log_here : won-hist.log T₂ ≡ L₂
+  log_here : won_hist.log T₂ ≡ L₂
   log_here = put_t_here g.log T₂ L₂
 
-  log_there : (U : ℕ) → (U ≡ T₂ → ⊥) → won-hist.log U ≡ g.log U
+  log_there : (U : ℕ) → (U ≡ T₂ → ⊥) → won_hist.log U ≡ g.log U
   log_there U m = put_t_there g.log T₂ L₂ U m
 
-  leads_here : won-hist.leads T₂ ≡ Some j
+  leads_here : won_hist.leads T₂ ≡ Some j
   leads_here = put_t_here g.leads T₂ (Some j)
 
-  leads_there : (U : ℕ) → (U ≡ T₂ → ⊥) → won-hist.leads U ≡ g.leads U
+  leads_there : (U : ℕ) → (U ≡ T₂ → ⊥) → won_hist.leads U ≡ g.leads U
   leads_there U m = put_t_there g.leads T₂ (Some j) U m
 
-  won_grew : (U : ℕ) (d : ServerId) → won-hist.leads U ≡ Some d → Pre (length (g.stood d U)) (g.stood d U) (won-hist.log U)
+  won_grew : (U : ℕ) (d : ServerId) → won_hist.leads U ≡ Some d → Pre (length (g.stood d U)) (g.stood d U) (won_hist.log U)
   won_grew U d e = elim (cases_eq U T₂) [
     | inl z ↦ rw z (let y : d ≡ j = some_same e (rw z leads_here) in
         rw (y, log_here, cand.log) (pre_refl (g.stood j T₂) (length (g.stood j T₂)) (omega arith)))
     | inr m ↦ rw (log_there U m) (inv.hist.grew U d (sym (leads_there U m) ∙ e))
   ]
 
-  won_led : (U : ℕ) → 0 < length (won-hist.log U) → (d : ServerId) × (won-hist.leads U ≡ Some d)
+  won_led : (U : ℕ) → 0 < length (won_hist.log U) → (d : ServerId) × (won_hist.leads U ≡ Some d)
   won_led U l = elim (cases_eq U T₂) [
     | inl z ↦ (j, rw z leads_here)
     | inr m ↦ let d = inv.hist.led U (rw (log_there U m) at l) in (d.0, leads_there U m ∙ d.1)
   ]
 
-  won_elected : (U : ℕ) (d : ServerId) → won-hist.leads U ≡ Some d → (x : ServerId) × (x ≡ d → ⊥) × (g.voted x U ≡ Some d)
+  won_elected : (U : ℕ) (d : ServerId) → won_hist.leads U ≡ Some d → (x : ServerId) × (x ≡ d → ⊥) × (g.voted x U ≡ Some d)
   won_elected U d e = elim (cases_eq U T₂) [
     | inl z ↦ let y : d ≡ j = some_same e (rw z leads_here) in (v, rw y n, rw (z, y) yes)
     | inr m ↦ inv.hist.elected U d (sym (leads_there U m) ∙ e)
   ]
 
-  won_acks : (q : ServerId) (U : ℕ) → won-hist.ack q U ≤ length (won-hist.log U)
-  won_acks = put2_all g.ack j T₂ (w.server j).durable (λ q U x. x ≤ length (won-hist.log U))
+  won_acks : (q : ServerId) (U : ℕ) → won_hist.ack q U ≤ length (won_hist.log U)
+  won_acks = put2_all g.ack j T₂ (w.server j).durable (λ q U x. x ≤ length (won_hist.log U))
       (rw log_here (inv.each j).durable)
       (λ q U off. omega (arith, inv.hist.acks q U, (won_grown.log U).right))
 
-  won_hist_ok : HistOk won-hist
+  won_hist_ok : HistOk won_hist
   won_hist_ok = record {
-    logs = put_t_all g.log T₂ L₂ (λ U l. Sound won-hist (suc U) l)
+    logs = put_t_all g.log T₂ L₂ (λ U l. Sound won_hist (suc U) l)
         (sound_grown won_grown (suc T₂) L₂ (inv.each j).log)
         (λ U m. sound_grown won_grown (suc U) (g.log U) (inv.hist.logs U));
     stoods = λ d T. sound_grown won_grown T (g.stood d T) (inv.hist.stoods d T);
@@ -110,10 +110,10 @@ module _ {g : Hist} {w : Core} (inv : Inv g w) (j v : ServerId) (n : v ≡ j →
     acks = won_acks;
   }
 
-  ack_here : won-hist.ack j T₂ ≡ (w.server j).durable
+  ack_here : won_hist.ack j T₂ ≡ (w.server j).durable
   ack_here = put2_here g.ack j T₂ (w.server j).durable
 
-  won_ok : Ok won-hist j (wins (w.server j))
+  won_ok : Ok won_hist j (wins (w.server j))
   won_ok =
       let o = inv.each j in
       record {
@@ -136,7 +136,7 @@ module _ {g : Hist} {w : Core} (inv : Inv g w) (j v : ServerId) (n : v ≡ j →
         machine = record { within = o.machine.within; ahead = o.machine.ahead };
       }
 
-  won_other : (k : ServerId) → (k ≡ j → ⊥) → Apart g won-hist k
+  won_other : (k : ServerId) → (k ≡ j → ⊥) → Apart g won_hist k
   won_other k m = record {
     voted = λ V. refl;
     ack = λ V. put2_there g.ack j T₂ (w.server j).durable k V (λ h. m h.0);
@@ -147,14 +147,14 @@ module _ {g : Hist} {w : Core} (inv : Inv g w) (j v : ServerId) (n : v ≡ j →
         (λ e. absurd (only k e)) (λ U m e. refl);
   }
 
-  won_fresh : (U i : ℕ) → i < won-hist.ack j U → (i < g.ack j U) ⊎ ((T₂ ≤ U) × Holds won-hist (wins (w.server j)) U i)
+  won_fresh : (U i : ℕ) → i < won_hist.ack j U → (i < g.ack j U) ⊎ ((T₂ ≤ U) × Holds won_hist (wins (w.server j)) U i)
   won_fresh U i l = elim (cases_eq U T₂) [
     | inl z ↦ let f : i < (w.server j).durable = rw (z, ack_here) at l in
         inr (omega arith, rw z (record { durable = f; pre = rw log_here (pre_refl L₂ (suc i) (omega (arith, (inv.each j).durable))) }))
     | inr m ↦ inl (rw (put2_there g.ack j T₂ (w.server j).durable j U (λ h. m h.1)) at l)
   ]
 
-  pub won_inv : Inv won-hist (change w j (wins (w.server j)))
+  pub won_inv : Inv won_hist (change w j (wins (w.server j)))
   won_inv = change_inv inv (record {
     grown = won_grown;
     hist = won_hist_ok;

@@ -37,10 +37,10 @@ module _ {g : Hist} {w : Core} (inv : Inv g w) (j : ServerId) (role : (w.server 
   abbrev pub L₄ : Log
   L₄ = L₃ ++ e ∷ []
 
-  abbrev pub more-hist : Hist
-  more-hist = record { leads = g.leads; log = put_t g.log T₃ L₄; voted = g.voted; stood = g.stood; ack = g.ack }
+  abbrev pub more_hist : Hist
+  more_hist = record { leads = g.leads; log = put_t g.log T₃ L₄; voted = g.voted; stood = g.stood; ack = g.ack }
 
-  pub more_grown : Grown g more-hist
+  pub more_grown : Grown g more_hist
   more_grown = record {
     leads = λ U c z. z;
     log = put_t_all g.log T₃ L₄ (λ U l. Pre (length (g.log U)) (g.log U) l)
@@ -50,17 +50,17 @@ module _ {g : Hist} {w : Core} (inv : Inv g w) (j : ServerId) (role : (w.server 
     ack = λ q U. omega arith;
   }
 
-  more_here : more-hist.log T₃ ≡ L₄
+  more_here : more_hist.log T₃ ≡ L₄
   more_here = put_t_here g.log T₃ L₄
 
-  more_sound : Sound more-hist (suc T₃) L₄
-  more_sound = sound_push more-hist (suc T₃) L₃ e (sound_grown more_grown (suc T₃) L₃ (inv.each j).log) (omega arith)
-      (let z : more-hist.log e.term ≡ L₄ = subst (λ U. more-hist.log U ≡ L₄) (sym own) more_here in
+  more_sound : Sound more_hist (suc T₃) L₄
+  more_sound = sound_push more_hist (suc T₃) L₃ e (sound_grown more_grown (suc T₃) L₃ (inv.each j).log) (omega arith)
+      (let z : more_hist.log e.term ≡ L₄ = subst (λ U. more_hist.log U ≡ L₄) (sym own) more_here in
       rw z (pre_refl L₄ (suc (length L₃)) (omega (arith, length_push L₃ e))))
 
-  more_hist_ok : HistOk more-hist
+  more_hist_ok : HistOk more_hist
   more_hist_ok = record {
-    logs = put_t_all g.log T₃ L₄ (λ U l. Sound more-hist (suc U) l) more_sound
+    logs = put_t_all g.log T₃ L₄ (λ U l. Sound more_hist (suc U) l) more_sound
         (λ U m. sound_grown more_grown (suc U) (g.log U) (inv.hist.logs U));
     stoods = λ d T. sound_grown more_grown T (g.stood d T) (inv.hist.stoods d T);
     grew = λ U c z. pre_grown more_grown U (inv.hist.grew U c z);
@@ -71,7 +71,7 @@ module _ {g : Hist} {w : Core} (inv : Inv g w) (j : ServerId) (role : (w.server 
     acks = λ q U. omega (arith, inv.hist.acks q U, (more_grown.log U).right);
   }
 
-  more_ok : Ok more-hist j (gains e (w.server j))
+  more_ok : Ok more_hist j (gains e (w.server j))
   more_ok =
       let o = inv.each j in
       let len = length_push L₃ e in
@@ -96,7 +96,7 @@ module _ {g : Hist} {w : Core} (inv : Inv g w) (j : ServerId) (role : (w.server 
         machine = applied_keeps (length L₃) (pre_push L₃ e) o.machine (omega (arith, o.machine.within)) (commit_le o) refl refl;
       }
 
-  more_other : (k : ServerId) → (k ≡ j → ⊥) → Apart g more-hist k
+  more_other : (k : ServerId) → (k ≡ j → ⊥) → Apart g more_hist k
   more_other k m = record {
     voted = λ V. refl;
     ack = λ V. refl;
@@ -106,7 +106,7 @@ module _ {g : Hist} {w : Core} (inv : Inv g w) (j : ServerId) (role : (w.server 
         (λ z. absurd (m (some_same z lead.leads))) (λ U n z. refl);
   }
 
-  pub more_inv : Inv more-hist (change w j (gains e (w.server j)))
+  pub more_inv : Inv more_hist (change w j (gains e (w.server j)))
   more_inv = change_inv inv (record {
     grown = more_grown;
     hist = more_hist_ok;

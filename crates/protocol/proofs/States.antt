@@ -5,7 +5,7 @@ use Rattle.std.proofs.lemmas.List.Sums.{fold_more}
 use Rattle.std.proofs.lemmas.Bool.{cases_lt, cond-true, cond-false, lt-ltb, le-ltb, cases_Bool, both_ways}
 use Rattle.sheet.specs.declared.types.Edit.{Edit}
 use Rattle.record.specs.declared.entry.Entry.{Entry}
-use Rattle.machine.specs.States.{newest, applied, settled, undoneTimes}
+use Rattle.machine.specs.States.{newest, applied, settled, undone_times}
 use Rattle.machine.proofs.Several.{times_is}
 use Rattle.protocol.specs.State.{blank, Log, at, Server, Machine}
 use Rattle.protocol.specs.Rules.{settled_times, moved}
@@ -100,7 +100,7 @@ not_both false = refl
 
 -- the machine of a server that does not stop and applies nothing more
 moved_back : {X : Type 0} (M : Machine X) (s s' : Server) (ms : List X) → (s.up && not s'.up) ≡ false → s'.applied ≤ s.applied
-    → moved M s s' ms ≡ settled_times (min s'.applied s'.commit - min s.applied s.commit) (undoneTimes (s.applied - s'.applied) ms)
+    → moved M s s' ms ≡ settled_times (min s'.applied s'.commit - min s.applied s.commit) (undone_times (s.applied - s'.applied) ms)
 moved_back M s s' ms u l = cond-false (s.up && not s'.up) _ _ u
     ∙ ap (settled_times (min s'.applied s'.commit - min s.applied s.commit)) (cond-false (ltb s.applied s'.applied) _ _ (le-ltb _ _ l))
 
@@ -113,7 +113,7 @@ moved_falls M s s' ms f o =
     let e1 = states_drop M s.log (a - a') a (a - c) k in
     let x : a - (a - a') ≡ a' = omega (arith, f.less) in
     let len : length ms ≡ suc (a - c) = ap (λ (x : List _). length x) o.is ∙ states_length M s.log a (a - c) in
-    let e2 : undoneTimes (a - a') ms ≡ states M s.log a' (a - c - (a - a')) = times_is (a - a') ms (omega arith) ∙ (ap (drop (a - a')) o.is ∙ (e1 ∙ ap (λ n. states M s.log n (a - c - (a - a'))) x)) in
+    let e2 : undone_times (a - a') ms ≡ states M s.log a' (a - c - (a - a')) = times_is (a - a') ms (omega arith) ∙ (ap (drop (a - a')) o.is ∙ (e1 ∙ ap (λ n. states M s.log n (a - c - (a - a'))) x)) in
     let n : min a' s'.commit - min a c ≡ a - c - (a - a') - (a' - s'.commit) = elim (cases_lt a' a) [ inl h ↦ omega (arith, f.back h, f.commit) | inr h ↦ omega (arith, f.less, f.commit) ] in
     let e3 = states_settled M s.log a' (a - c - (a - a')) (a' - s'.commit) _ (omega (arith, f.less, f.commit)) n in
     let u : (s.up && not s'.up) ≡ false = ap (λ b. s.up && not b) f.up ∙ not_both s.up in

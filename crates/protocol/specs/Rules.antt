@@ -2,7 +2,7 @@
 use Rattle.std.specs.Prelude.{ℕ, zero, suc, ◌+◌, ◌-◌, min, Bool, true, false, cond, not, ◌&&◌, ◌||◌, List, [], ◌∷◌, ◌++◌, length, take, Some, None, Option, ◌==◌, nat_le, nat_lt}
 use Rattle.sheet.specs.declared.types.Edit.{Edit}
 use Rattle.record.specs.declared.entry.Entry.{Entry}
-use Rattle.machine.specs.States.{applied, settled, undoneTimes}
+use Rattle.machine.specs.States.{applied, settled, undone_times}
 use Rattle.protocol.specs.declared.Standing.{Standing}
 use Rattle.protocol.specs.declared.Standing.TheVariants.{Kept, Gone, Open, Unknown}
 use Rattle.protocol.specs.ServerIds.{ServerId}
@@ -93,4 +93,4 @@ moved M s s' ms =
     (settled_times (min s'.applied s'.commit - min s.applied s.commit)
     (cond (nat_lt s.applied s'.applied)
     (applied M.opening M.next (at s'.log s.applied).edit ms)
-    (undoneTimes (s.applied - s'.applied) ms)))
+    (undone_times (s.applied - s'.applied) ms)))

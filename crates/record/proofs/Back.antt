@@ -7,7 +7,7 @@ use Rattle.record.specs.declared.kinds.Ballot.{Ballot}
 use Rattle.record.specs.declared.kinds.Record.{Record}
 use Rattle.record.specs.declared.kinds.Record.TheVariants.{Opening, Logged}
 use Rattle.record.specs.declared.fault.RecordFault.{RecordFault}
-use Rattle.record.specs.Format.{two, four, word, ballot_fields, entry_fields, encode, faultAt, BallotFits, EntryFits, RecordRead, ReadsBack}
+use Rattle.record.specs.Format.{two, four, word, ballot_fields, entry_fields, encode, fault_at, BallotFits, EntryFits, RecordRead, ReadsBack}
 use Rattle.record.specs.Laws.{Unambiguous, NeverRefused, AnswerFits, Determined}
 use Rattle.record.proofs.Bytes.{of_two, of_four, pair_at, quad_at}
 use Rattle.record.proofs.Cuts.{enough}
@@ -59,7 +59,7 @@ unambiguous (Logged f) (Logged g) x y hf hg e =
     (ap Logged p.0, p.1)
 
 pub never_refused : NeverRefused
-unfolding encode two four word faultAt
+unfolding encode two four word fault_at
 never_refused (Opening f) rest off = simp (enough (encode (Opening f) ++ rest) (omega arith))
 never_refused (Logged f) rest off = simp (enough (encode (Logged f) ++ rest) (omega arith))
 
@@ -68,10 +68,10 @@ determined bs off (Ok p) (Ok q) hp hq ep eq =
     let u = unambiguous p.0 q.0 p.1 q.1 hp hq (sym ep ∙ eq) in
     λ i. Ok (u.0 i, u.1 i)
 determined bs off (Ok p) (Err e) hp hq ep eq =
-    let z : None ≡ Some e = sym (never_refused p.0 p.1 off) ∙ ap (faultAt off) (sym ep) ∙ eq in
+    let z : None ≡ Some e = sym (never_refused p.0 p.1 off) ∙ ap (fault_at off) (sym ep) ∙ eq in
     let b : ◌≡◌ {A = ℕ} 0 1 = cc in absurd (omega arith)
 determined bs off (Err e) (Ok p) hp hq ep eq =
-    let z : None ≡ Some e = sym (never_refused p.0 p.1 off) ∙ ap (faultAt off) (sym eq) ∙ ep in
+    let z : None ≡ Some e = sym (never_refused p.0 p.1 off) ∙ ap (fault_at off) (sym eq) ∙ ep in
     let b : ◌≡◌ {A = ℕ} 0 1 = cc in absurd (omega arith)
 determined bs off (Err d) (Err e) hp hq ep eq =
     let z : ◌≡◌ {A = Option RecordFault} (Some d) (Some e) = sym ep ∙ eq in

@@ -5,7 +5,7 @@ use Rattle.record.specs.declared.entry.Entry.{Entry}
 use Rattle.record.specs.declared.kinds.Ballot.{Ballot}
 use Rattle.record.specs.declared.kinds.Record.TheVariants.{Opening, Logged}
 use Rattle.record.specs.declared.fault.RecordFault.TheVariants.{Field, WrongLength, UnknownKind}
-use Rattle.record.specs.Format.{two, four, word, ballot_fields, entry_fields, encode, length_in, kind_in, faultAt}
+use Rattle.record.specs.Format.{two, four, word, ballot_fields, entry_fields, encode, length_in, kind_in, fault_at}
 use Rattle.record.proofs.Bytes.{of_two}
 
 -- what the head bytes say
@@ -37,25 +37,25 @@ pub whole_entry : (bs fields after : List ℕ) (k : ℕ) (x : Entry) → Cut bs 
 unfolding encode two four word
 whole_entry bs fields after k x c h e = c.whole ∙ (λ i. two (length (e i)) ++ (two (h i) ++ (e i ++ after)))
 
-pub short : (bs : List ℕ) (off : ℕ) → (length bs < 4) ⊎ (length bs < 4 + length_in bs) → faultAt off bs ≡ Some (Field (record { offset = off }))
-unfolding faultAt
+pub short : (bs : List ℕ) (off : ℕ) → (length bs < 4) ⊎ (length bs < 4 + length_in bs) → fault_at off bs ≡ Some (Field (record { offset = off }))
+unfolding fault_at
 short bs off (inl h) = simp (or_left (ltb (length bs) 4) (ltb (length bs) (4 + length_in bs)) (lt-ltb _ _ h))
 short bs off (inr h) = simp (or_right (ltb (length bs) 4) (ltb (length bs) (4 + length_in bs)) (lt-ltb _ _ h))
 
 pub enough : (bs : List ℕ) → 4 + length_in bs ≤ length bs → (ltb (length bs) 4 || ltb (length bs) (4 + length_in bs)) ≡ false
 enough bs h = or_from _ _ (le-ltb (length bs) 4 (omega arith)) (le-ltb (length bs) (4 + length_in bs) h)
 
-pub wrong_ballot : (bs fields after : List ℕ) (k off : ℕ) → Cut bs fields after k → k ≡ 1 → (length fields ≡ 6 → ⊥) → faultAt off bs ≡ Some (WrongLength off)
-unfolding faultAt
+pub wrong_ballot : (bs fields after : List ℕ) (k off : ℕ) → Cut bs fields after k → k ≡ 1 → (length fields ≡ 6 → ⊥) → fault_at off bs ≡ Some (WrongLength off)
+unfolding fault_at
 wrong_ballot bs fields after k off c h n =
     simp (enough bs c.long, eq-eqb (kind_in bs) 1 (c.kind_in_record ∙ h), ne_eqb (length_in bs) 6 (λ e. n (sym c.len_in ∙ e)))
 
-pub wrong_entry : (bs fields after : List ℕ) (k off : ℕ) → Cut bs fields after k → k ≡ 2 → (length fields ≡ 22 → ⊥) → faultAt off bs ≡ Some (WrongLength off)
-unfolding faultAt
+pub wrong_entry : (bs fields after : List ℕ) (k off : ℕ) → Cut bs fields after k → k ≡ 2 → (length fields ≡ 22 → ⊥) → fault_at off bs ≡ Some (WrongLength off)
+unfolding fault_at
 wrong_entry bs fields after k off c h n =
     simp (enough bs c.long, ne_eqb (kind_in bs) 1 (omega (arith, c.kind_in_record)), eq-eqb (kind_in bs) 2 (c.kind_in_record ∙ h), ne_eqb (length_in bs) 22 (λ e. n (sym c.len_in ∙ e)))
 
-pub wrong_kind : (bs fields after : List ℕ) (k off : ℕ) → Cut bs fields after k → (k ≡ 1 → ⊥) → (k ≡ 2 → ⊥) → faultAt off bs ≡ Some (UnknownKind off)
-unfolding faultAt
+pub wrong_kind : (bs fields after : List ℕ) (k off : ℕ) → Cut bs fields after k → (k ≡ 1 → ⊥) → (k ≡ 2 → ⊥) → fault_at off bs ≡ Some (UnknownKind off)
+unfolding fault_at
 wrong_kind bs fields after k off c h n =
     simp (enough bs c.long, ne_eqb (kind_in bs) 1 (λ e. h (sym c.kind_in_record ∙ e)), ne_eqb (kind_in bs) 2 (λ e. n (sym c.kind_in_record ∙ e)))

@@ -57,8 +57,8 @@ kind_in bs = slice_index bs 2 + slice_index bs 3 * 256
 
 -- The first check that the record at the front of the bytes fails, in the order of checking:
 -- fewer bytes than the head needs, or than its length needs; an unknown kind; another length than the kind's.
-unfoldable pub faultAt : (offset : ℕ) → List ℕ → Option RecordFault
-faultAt off bs =
+unfoldable pub fault_at : (offset : ℕ) → List ℕ → Option RecordFault
+fault_at off bs =
     cond (nat_lt (length bs) 4 || nat_lt (length bs) (4 + length_in bs)) (Some (Field (record { offset = off })))
     (cond (kind_in bs == 1) (cond (length_in bs == 6) None (Some (WrongLength off)))
     (cond (kind_in bs == 2) (cond (length_in bs == 22) None (Some (WrongLength off)))
@@ -67,7 +67,7 @@ faultAt off bs =
 -- The answer to bytes that begin at the offset: the record that they begin with and the rest, or the first fault.
 abbrev pub RecordRead : List ℕ → ℕ → Result (Record × List ℕ) RecordFault → Type 0
 RecordRead bs off (Ok p) = bs ≡ encode p.0 ++ p.1
-RecordRead bs off (Err e) = faultAt off bs ≡ Some e
+RecordRead bs off (Err e) = fault_at off bs ≡ Some e
 
 -- Bytes that begin with a record are answered with that record and the rest.
 abbrev pub ReadsBack : List ℕ → Result (Record × List ℕ) RecordFault → Type 0

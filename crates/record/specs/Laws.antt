@@ -2,7 +2,7 @@
 use Rattle.std.specs.Prelude.{◌≡◌, ℕ, List, ◌++◌, None, Ok, Err, Result}
 use Rattle.record.specs.declared.kinds.Record.{Record}
 use Rattle.record.specs.declared.fault.RecordFault.{RecordFault}
-use Rattle.record.specs.Format.{encode, faultAt, Fitting, RecordRead}
+use Rattle.record.specs.Format.{encode, fault_at, Fitting, RecordRead}
 
 -- bytes that begin with a record begin with no other
 abbrev pub Unambiguous : Type 0
@@ -10,7 +10,7 @@ Unambiguous = (a b : Record) (x y : List ℕ) → Fitting a → Fitting b → en
 
 -- bytes that begin with a record fail no check
 abbrev pub NeverRefused : Type 0
-NeverRefused = (r : Record) (rest : List ℕ) (off : ℕ) → faultAt off (encode r ++ rest) ≡ None
+NeverRefused = (r : Record) (rest : List ℕ) (off : ℕ) → fault_at off (encode r ++ rest) ≡ None
 
 -- any bytes have one answer
 abbrev pub AnswerFits : Result (Record × List ℕ) RecordFault → Type 0

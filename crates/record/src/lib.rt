@@ -1,4 +1,5 @@
 // What a server's log holds, and its records in bytes.
+#![tactic(auto)]
 pub mod entry;
 pub mod fault;
 pub mod kinds;

@@ -3,7 +3,7 @@ ghost use Rattle.std.specs.Prelude.{◌≡◌, suc, ◌&&◌, length, ◌==◌};
 ghost use Rattle.protocol.specs.State.{term_at};
 ghost use Rattle.protocol.specs.AppendEntries.{append_request, notes, got_yes, got_no, got_reply, known as known_of, two_hold, top, raises, hears_reply};
 ghost use Rattle.protocol.specs.Rules.{syncs};
-ghost use Rattle.node.specs.Meaning.{serverOf, Goes};
+ghost use Rattle.node.specs.Meaning.{server_of, Goes};
 
 use node::Node;
 use node::ids::{is_same, leads, place_of};
@@ -12,7 +12,7 @@ use store::Store;
 
 // The append request to a receiver: the entry before next, the commit, and entry next if it is held.
 pub fn append_request<S: Store + Drop>(node: &Node<S>, me: ServerId, receiver: ServerId) -> Message
-    ensures { result ≡ append_request me (serverOf S.Store.meaning node.now) receiver }
+    ensures { result ≡ append_request me (server_of S.Store.meaning node.now) receiver }
 {
     let previous = node.next[place_of(receiver)].saturating_sub(1);
     Message {
@@ -64,7 +64,7 @@ fn got_reply<S: Store + Drop>(node: &mut Node<S>, from: ServerId, ok: bool, agre
 
 // How far a server is known to hold the log of the leader `me`.
 fn known<S: Store + Drop>(node: &Node<S>, me: ServerId, server: ServerId) -> usize
-    ensures { result ≡ known_of me (serverOf S.Store.meaning node.now) server }
+    ensures { result ≡ known_of me (server_of S.Store.meaning node.now) server }
 {
     if is_same(server, me) {
         node.store.durable()
@@ -74,7 +74,7 @@ fn known<S: Store + Drop>(node: &Node<S>, me: ServerId, server: ServerId) -> usi
 }
 
 fn two_hold<S: Store + Drop>(node: &Node<S>, me: ServerId, number: usize) -> bool
-    ensures { result ≡ two_hold me (serverOf S.Store.meaning node.now) number }
+    ensures { result ≡ two_hold me (server_of S.Store.meaning node.now) number }
 {
     let a = number <= known(node, me, ServerId::One);
     let b = number <= known(node, me, ServerId::Two);
@@ -84,14 +84,14 @@ fn two_hold<S: Store + Drop>(node: &Node<S>, me: ServerId, number: usize) -> boo
 
 // Whether the entry that `i` others stand before is of the own term, and two servers hold it.
 fn may_commit<S: Store + Drop>(node: &Node<S>, me: ServerId, i: u32) -> bool
-    ensures { result ≡ (term_at (S.Store.meaning node.now.store).entries i == (S.Store.meaning node.now.store).term && two_hold me (serverOf S.Store.meaning node.now) (suc i)) }
+    ensures { result ≡ (term_at (S.Store.meaning node.now.store).entries i == (S.Store.meaning node.now.store).term && two_hold me (server_of S.Store.meaning node.now) (suc i)) }
 {
     node.term_at(i) == node.store.term() && two_hold(node, me, i as usize + 1)
 }
 
 // The largest number whose entry is of the own term and which two servers hold, or 0.
 fn top_held<S: Store + Drop>(node: &Node<S>, me: ServerId) -> u32
-    ensures { result ≡ top me (serverOf S.Store.meaning node.now) (length (S.Store.meaning node.now.store).entries) }
+    ensures { result ≡ top me (server_of S.Store.meaning node.now) (length (S.Store.meaning node.now.store).entries) }
 {
     let mut best = 0;
     for i in 0..node.len() {

@@ -1,7 +1,7 @@
 // The receiver of an append request, with all its cases in order.
 ghost use Rattle.std.specs.Prelude.{◌≡◌, suc, ◌<◌, ◌≤◌, min, [], ◌∷◌, ◌++◌, length, take};
 ghost use Rattle.protocol.specs.AppendEntries.{follows, reaches, accepts, accepted, accepted_to, took as tookIt, took_to, no_to, hears_append, append_reply};
-ghost use Rattle.node.specs.Meaning.{serverOf, Goes};
+ghost use Rattle.node.specs.Meaning.{server_of, Goes};
 
 use node::Node;
 use node::ids::leads;
@@ -64,7 +64,7 @@ fn accept<S: Store + Drop>(
     entry: Entry,
 ) -> Option<u16>
     ensures after { Goes S.Store.meaning node.old (accepted previous commit entry) node.new }
-    ensures says { result ≡ accepted_to previous entry (serverOf S.Store.meaning node.old) }
+    ensures says { result ≡ accepted_to previous entry (server_of S.Store.meaning node.old) }
 {
     if previous >= 64 {
         follow(node);
@@ -97,7 +97,7 @@ fn take_in<S: Store + Drop>(
 ) -> Option<u16>
     requires { previous ≤ length (S.Store.meaning node.old.store).entries }
     ensures after { Goes S.Store.meaning node.old (tookIt previous commit entry) node.new }
-    ensures says { result ≡ took_to previous entry (serverOf S.Store.meaning node.old) }
+    ensures says { result ≡ took_to previous entry (server_of S.Store.meaning node.old) }
 {
     match entry {
         None => {
@@ -109,7 +109,7 @@ fn take_in<S: Store + Drop>(
 }
 
 fn no_to<S: Store + Drop>(node: &Node<S>, from: ServerId, to: ServerId) -> Message
-    ensures { result ≡ no_to from to (serverOf S.Store.meaning node.now) }
+    ensures { result ≡ no_to from to (server_of S.Store.meaning node.now) }
 {
     Message {
         from: to,
@@ -129,7 +129,7 @@ pub fn hear_append<S: Store + Drop>(
     entry: Option<Entry>,
 ) -> Option<Message>
     ensures after { Goes S.Store.meaning node.old (hears_append message.term previous previous_term commit entry) node.new }
-    ensures says { result ≡ append_reply message.from message.to message.term previous previous_term entry (serverOf S.Store.meaning node.old) }
+    ensures says { result ≡ append_reply message.from message.to message.term previous previous_term entry (server_of S.Store.meaning node.old) }
 {
     if message.term != node.store.term() {
         return Some(no_to(node, message.from, message.to));

@@ -7,7 +7,7 @@ ghost use Rattle.protocol.specs.Elections.{caught_up, campaigns};
 ghost use Rattle.protocol.specs.Rules.{hears, replies, proposes, firms, applies_next, fails, restarts};
 ghost use Rattle.protocol.specs.Calls.{propose_answer, firm_answer, apply_answer, outage_answer, restart_answer, standing_answer, look_answer};
 ghost use Rattle.node.specs.Campaigns.{stand_answer};
-ghost use Rattle.server.specs.Turns.{kind_of, state_of, statesOf, Turned};
+ghost use Rattle.server.specs.Turns.{kind_of, state_of, states_of, Turned};
 ghost use Rattle.server.specs.Answers.{told_proposed, request_answer, kept_by, may_keep_at};
 
 use crate::following::follow;
@@ -25,7 +25,7 @@ impl<S: Store + Drop, M: StateMachine + Drop> Server<S, M> {
     // Clears the store, and resets the machine.
     pub fn open(store: S, mut machine: M) -> Self
         ensures state { state_of S.Store.meaning M.StateMachine.states result ≡ core_opening.server One }
-        ensures states { statesOf S.Store.meaning M.StateMachine.states result ≡ M.StateMachine.opening ∷ [] }
+        ensures states { states_of S.Store.meaning M.StateMachine.states result ≡ M.StateMachine.opening ∷ [] }
     {
         machine.reset();
         Server {
@@ -149,7 +149,7 @@ impl<S: Store + Drop, M: StateMachine + Drop> Server<S, M> {
 
     // A cell of the machine's newest state.
     pub fn look(&self, row: i32, size: i32) -> Result<u16, Refusal>
-        ensures { told result ≡ look_answer (kind_of M.StateMachine.opening M.StateMachine.next M.StateMachine.cell) (state_of S.Store.meaning M.StateMachine.states self.now) (statesOf S.Store.meaning M.StateMachine.states self.now) row size }
+        ensures { told result ≡ look_answer (kind_of M.StateMachine.opening M.StateMachine.next M.StateMachine.cell) (state_of S.Store.meaning M.StateMachine.states self.now) (states_of S.Store.meaning M.StateMachine.states self.now) row size }
     {
         if !self.node.up {
             return Err(Refusal::ServerDown);

@@ -1,4 +1,5 @@
 // One server with its machine: the calls that it answers, and the messages that it hears.
+#![tactic(auto)]
 use machine::StateMachine;
 use node::Node;
 use store::Store;

@@ -4,7 +4,7 @@ ghost use Rattle.refusal.specs.Numbers.{told};
 ghost use Rattle.protocol.specs.Elections.{caught_up};
 ghost use Rattle.protocol.specs.Rules.{hears, replies, proposes, firms, openly as openlyAt, few_open, applies, applies_next, fails, restarts, standing_of};
 ghost use Rattle.protocol.specs.Calls.{propose_answer, firm_answer, apply_answer, outage_answer, restart_answer};
-ghost use Rattle.node.specs.Meaning.{serverOf, Goes};
+ghost use Rattle.node.specs.Meaning.{server_of, Goes};
 ghost use Rattle.server.specs.Answers.{told_proposed, kept_by, may_keep_at};
 
 use crate::Proposed;
@@ -21,7 +21,7 @@ use store::Store;
 // A message at its receiver: it takes the term if it is higher, and hears the message.
 pub fn hear<S: Store + Drop>(node: &mut Node<S>, message: Message) -> Option<Message>
     ensures after { Goes S.Store.meaning node.old (λ s. hears (caught_up message.term s) message.from message.to message.term message.body) node.new }
-    ensures says { result ≡ replies (caught_up message.term (serverOf S.Store.meaning node.old)) message.from message.to message.term message.body }
+    ensures says { result ≡ replies (caught_up message.term (server_of S.Store.meaning node.old)) message.from message.to message.term message.body }
 {
     node.catch_up(message.term);
     match message.body {
@@ -50,7 +50,7 @@ pub fn hear<S: Store + Drop>(node: &mut Node<S>, message: Message) -> Option<Mes
 
 // A leader takes an entry of its term, volatile.
 pub fn propose<S: Store + Drop>(node: &mut Node<S>, edit: Edit) -> Result<Proposed, Refusal>
-    ensures says { told_proposed result ≡ propose_answer (serverOf S.Store.meaning node.old) }
+    ensures says { told_proposed result ≡ propose_answer (server_of S.Store.meaning node.old) }
     ensures after { Goes S.Store.meaning node.old (proposes edit) node.new }
 {
     // That the server is down is told before that it is no leader.
@@ -74,7 +74,7 @@ pub fn propose<S: Store + Drop>(node: &mut Node<S>, edit: Edit) -> Result<Propos
 
 // Syncs the store; a leader then raises its commit.
 pub fn firm<S: Store + Drop>(node: &mut Node<S>, me: ServerId) -> Result<(), Refusal>
-    ensures says { told result ≡ firm_answer (serverOf S.Store.meaning node.old) }
+    ensures says { told result ≡ firm_answer (server_of S.Store.meaning node.old) }
     ensures after { Goes S.Store.meaning node.old (firms me) node.new }
 {
     if !node.up {
@@ -89,14 +89,14 @@ pub fn firm<S: Store + Drop>(node: &mut Node<S>, me: ServerId) -> Result<(), Ref
 
 // Whether the next entry may be applied openly, room apart.
 fn openly<S: Store + Drop>(node: &Node<S>) -> bool
-    ensures is { result ≡ openlyAt (serverOf S.Store.meaning node.now) }
+    ensures is { result ≡ openlyAt (server_of S.Store.meaning node.now) }
     ensures few { T result → node.now.applied < 64 }
 {
     0 < node.commit && (node.tip(node.commit) == node.store.term() && node.applied < node.len())
 }
 
 fn few_open<S: Store + Drop>(node: &Node<S>) -> bool
-    ensures { result ≡ few_open (serverOf S.Store.meaning node.now) }
+    ensures { result ≡ few_open (server_of S.Store.meaning node.now) }
 {
     (node.applied as u64) < node.commit as u64 + 16
 }
@@ -110,7 +110,7 @@ fn apply_one<S: Store + Drop>(node: &mut Node<S>)
 
 // Applies the next entry, below commit or openly.
 pub fn apply<S: Store + Drop>(node: &mut Node<S>) -> Result<(), Refusal>
-    ensures says { told result ≡ apply_answer (serverOf S.Store.meaning node.old) }
+    ensures says { told result ≡ apply_answer (server_of S.Store.meaning node.old) }
     ensures after { Goes S.Store.meaning node.old applies_next node.new }
 {
     if !node.up {
@@ -132,9 +132,9 @@ pub fn apply<S: Store + Drop>(node: &mut Node<S>) -> Result<(), Refusal>
 
 // Stops the server, and tells how many entries are left. `wish` is how many volatile ones may stay.
 pub fn stop<S: Store + Drop>(node: &mut Node<S>, wish: u32) -> Result<u32, Refusal>
-    ensures says { told result ≡ outage_answer (serverOf S.Store.meaning node.old) (kept_by result) }
+    ensures says { told result ≡ outage_answer (server_of S.Store.meaning node.old) (kept_by result) }
     ensures after { Goes S.Store.meaning node.old (fails (kept_by result)) node.new }
-    ensures may { may_keep_at (kept_by result) (serverOf S.Store.meaning node.old) ≡ true }
+    ensures may { may_keep_at (kept_by result) (server_of S.Store.meaning node.old) ≡ true }
 {
     if !node.up {
         return Err(Refusal::ServerDown);
@@ -148,7 +148,7 @@ pub fn stop<S: Store + Drop>(node: &mut Node<S>, wish: u32) -> Result<u32, Refus
 }
 
 pub fn restart<S: Store + Drop>(node: &mut Node<S>) -> Result<(), Refusal>
-    ensures says { told result ≡ restart_answer (serverOf S.Store.meaning node.old) }
+    ensures says { told result ≡ restart_answer (server_of S.Store.meaning node.old) }
     ensures after { Goes S.Store.meaning node.old restarts node.new }
 {
     if node.up {
@@ -160,7 +160,7 @@ pub fn restart<S: Store + Drop>(node: &mut Node<S>) -> Result<(), Refusal>
 
 // What the node tells of a number and a term.
 pub fn standing_of<S: Store + Drop>(node: &Node<S>, number: u32, term: u32) -> Standing
-    ensures { result ≡ standing_of (serverOf S.Store.meaning node.now) number term }
+    ensures { result ≡ standing_of (server_of S.Store.meaning node.now) number term }
 {
     let own = node.tip(number) == term;
     if 0 < number && number <= node.commit {

@@ -6,7 +6,7 @@ use Rattle.std.proofs.lemmas.Int.{ints, by_lt_z}
 use Rattle.std.proofs.lemmas.Nat.{mul-le}
 use Rattle.std.proofs.lemmas.List.FromFn.{get_or-map-range_with_len}
 use Rattle.std.proofs.lemmas.Bool.{false≢true, and_parts, cond_both}
-use Rattle.sheet.specs.Rules.{in_range, all_in_range, fitted, place, floor_div, graded, gradedCells}
+use Rattle.sheet.specs.Rules.{in_range, all_in_range, fitted, place, floor_div, graded, graded_cells}
 use Rattle.sheet.specs.Grading.{Nearest, Grades, Graded}
 use Rattle.sheet.proofs.Ints.{floors}
 
@@ -59,9 +59,9 @@ cells_are (z ∷ zs) zero e h = in_range_positive z (and_parts _ _ e).0
 cells_are (z ∷ zs) (suc k) e h = cells_are zs k (and_parts _ _ e).1 (omega arith)
 
 -- each cell of a graded row is the nearest
-pub graded_nearest : (old : List ℕ) (size a q : ℤ) → pos 1 ≤ℤ q → (o : Option (List ℕ)) → o ≡ fitted (gradedCells (get_or old (place size) 0) size a q)
+pub graded_nearest : (old : List ℕ) (size a q : ℤ) → pos 1 ≤ℤ q → (o : Option (List ℕ)) → o ≡ fitted (graded_cells (get_or old (place size) 0) size a q)
     → IfSome o (Graded old size a q)
-unfolding gradedCells
+unfolding graded_cells
 graded_nearest old size a (negsuc n) h o e = absurd (omega (arith, ints))
 graded_nearest old size a (pos q) h o e =
     let f : ℕ → ℤ = λ s. graded (get_or old (place size) 0) size a (pos q) (pos s) in

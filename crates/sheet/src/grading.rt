@@ -1,7 +1,7 @@
 // One row: a cell set, or the whole row graded.
 ghost use Rattle.std.specs.Prelude.{◌≡◌, ℕ, ◌+◌, ◌<◌, ◌≤◌, true, false, ℤ, pos, negsuc, ◌*ℤ◌, ◌≤ℤ◌, IfSome, MatchOption, slice_index};
 ghost use Rattle.sheet.specs.Cells.{row_in};
-ghost use Rattle.sheet.specs.Rules.{between, in_range, place, floor_div, graded, gradedCells, fitted, set_row, grade_row};
+ghost use Rattle.sheet.specs.Rules.{between, in_range, place, floor_div, graded, graded_cells, fitted, set_row, grade_row};
 ghost use Rattle.sheet.specs.Grading.{Graded};
 
 use super::types::{CELL_MAX, Row};
@@ -85,7 +85,7 @@ fn grade_cells(row: Row, size: i32, a: i32, q: i32) -> Option<Row>
     requires size { (pos 1 ≤ℤ size) × (size ≤ℤ pos 12) }
     requires a { (negsuc 99999 ≤ℤ a) × (a ≤ℤ pos 100000) }
     requires q { (pos 1 ≤ℤ q) × (q ≤ℤ pos 1000) }
-    ensures { row_in result ≡ fitted (gradedCells (slice_index row.cells (place size)) size a q) }
+    ensures { row_in result ≡ fitted (graded_cells (slice_index row.cells (place size)) size a q) }
 {
     let base = row.cells[place_of(size)];
     let mut cells = row.cells;

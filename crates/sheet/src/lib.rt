@@ -1,4 +1,5 @@
 // The measure sheet: eight rows by twelve sizes, and the rules by which edits change it.
+#![tactic(auto)]
 mod grading;
 mod rules;
 pub mod starred;

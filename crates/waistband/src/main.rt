@@ -1,4 +1,5 @@
 // A script of edits, run over both machines.
+#![tactic(auto)]
 mod command;
 mod table;
 

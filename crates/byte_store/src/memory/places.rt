@@ -2,7 +2,7 @@
 ghost use Rattle.std.specs.Prelude.{◌≡◌, ◌+◌, ◌*◌, ◌<◌, ◌≤◌, ◌++◌, take, drop};
 ghost use Rattle.record.specs.declared.kinds.Record.TheVariants.{Opening, Logged};
 ghost use Rattle.record.specs.Format.{encode};
-ghost use Rattle.byte_store.specs.Bytes.{openingPart, placePart, ballotIn, entryIn, Opened, PlacedAt};
+ghost use Rattle.byte_store.specs.Bytes.{opening_part, place_part, ballot_in, entry_in, Opened, PlacedAt};
 
 use super::{OPENING_SIZE, PLACE_SIZE, SIZE};
 use record::{Ballot, Entry, Record, bytes_of_ballot, bytes_of_entry, read_record};
@@ -33,7 +33,7 @@ pub(crate) fn put_entry(bytes: &mut [u8; SIZE], place: usize, entry: Entry)
 
 pub(crate) fn read_ballot(bytes: &[u8; SIZE]) -> Ballot
     requires { Opened bytes.now }
-    ensures { result ≡ ballotIn (openingPart bytes.now) }
+    ensures { result ≡ ballot_in (opening_part bytes.now) }
 {
     let (record, _) = read_record(bytes, 0).unwrap();
     match record {
@@ -45,7 +45,7 @@ pub(crate) fn read_ballot(bytes: &[u8; SIZE]) -> Ballot
 pub(crate) fn read_entry(bytes: &[u8; SIZE], place: usize) -> Entry
     requires within { place < 64 }
     requires placed { PlacedAt place bytes.now }
-    ensures { result ≡ entryIn (placePart place bytes.now) }
+    ensures { result ≡ entry_in (place_part place bytes.now) }
 {
     let at = start_of(place);
     let (record, _) = read_record(&bytes[at..at + PLACE_SIZE], at).unwrap();

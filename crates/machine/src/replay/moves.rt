@@ -2,7 +2,7 @@ ghost use Rattle.std.specs.Prelude.{◌≡◌, ℕ, List, [], ◌∷◌, length,
 ghost use Rattle.sheet.specs.Cells.{cells_of};
 ghost use Rattle.sheet.specs.Rules.{opening, cell_at, next};
 ghost use Rattle.machine.specs.States.{newest};
-ghost use Rattle.machine.specs.Sheets.{replayStates};
+ghost use Rattle.machine.specs.Sheets.{replay_states};
 ghost use borrow.Author.Rules.{rules};
 ghost use Rattle.sheet.specs.Rules;
 ghost use Rattle.machine.specs.Counts;
@@ -19,7 +19,7 @@ const OPEN_MAX: usize = 16;
 impl ReplayMachine {
     // The machine at its opening state, with memory for sixteen open edits.
     pub fn open(heap: Global) -> Result<Self, AllocError>
-        ensures { IfOk result (λ m. replayStates m ≡ opening ∷ []) }
+        ensures { IfOk result (λ m. replay_states m ≡ opening ∷ []) }
     {
         let edits = Vec::with_capacity(heap, OPEN_MAX)?;
         Ok(ReplayMachine {
@@ -30,7 +30,7 @@ impl ReplayMachine {
 
     // The oldest sheet after all the open edits.
     fn replayed(&self) -> Sheet
-        ensures { cells_of result ≡ newest opening (replayStates self.now) }
+        ensures { cells_of result ≡ newest opening (replay_states self.now) }
     {
         let mut sheet = self.oldest;
         for edit in self.edits.as_slice() {
@@ -49,11 +49,11 @@ impl StateMachine for ReplayMachine {
 
     ghost cell = { cell_at };
 
-    ghost states = { replayStates };
+    ghost states = { replay_states };
 
     ghost idle = { unfold Rules.next in Prim.search rules };
 
-    ghost counted = { unfold replayStates in λ m. Counts.counted _ (length m.edits.items) (on_count (cells_of m.oldest) m.edits.items) m.few };
+    ghost counted = { unfold replay_states in λ m. Counts.counted _ (length m.edits.items) (on_count (cells_of m.oldest) m.edits.items) m.few };
 
     fn apply(&mut self, edit: Edit) -> Result<(), Refusal> {
         if self.edits.len() >= OPEN_MAX {

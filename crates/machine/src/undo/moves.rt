@@ -1,7 +1,7 @@
 ghost use Rattle.std.specs.Prelude.{◌≡◌, ℕ, List, [], ◌∷◌, length, IfOk};
 ghost use Rattle.sheet.specs.Cells.{cells_of};
 ghost use Rattle.sheet.specs.Rules.{opening, cell_at, next};
-ghost use Rattle.machine.specs.Sheets.{put_back, undoStates};
+ghost use Rattle.machine.specs.Sheets.{put_back, undo_states};
 ghost use borrow.Author.Rules.{rules};
 ghost use Rattle.sheet.specs.Rules;
 ghost use Rattle.machine.specs.Counts;
@@ -36,7 +36,7 @@ fn put_back(sheet: &mut Sheet, replaced: Replaced)
 impl UndoMachine {
     // The machine at its opening state, with memory for sixteen open edits.
     pub fn open(heap: Global) -> Result<Self, AllocError>
-        ensures { IfOk result (λ m. undoStates m ≡ opening ∷ []) }
+        ensures { IfOk result (λ m. undo_states m ≡ opening ∷ []) }
     {
         let replaced = Vec::with_capacity(heap, OPEN_MAX)?;
         Ok(UndoMachine {
@@ -55,11 +55,11 @@ impl StateMachine for UndoMachine {
 
     ghost cell = { cell_at };
 
-    ghost states = { undoStates };
+    ghost states = { undo_states };
 
     ghost idle = { unfold Rules.next in Prim.search rules };
 
-    ghost counted = { unfold undoStates in λ m. Counts.counted _ (length m.replaced.items) (back_count (cells_of m.newest) m.replaced.items) m.few };
+    ghost counted = { unfold undo_states in λ m. Counts.counted _ (length m.replaced.items) (back_count (cells_of m.newest) m.replaced.items) m.few };
 
     fn apply(&mut self, edit: Edit) -> Result<(), Refusal> {
         if self.replaced.len() >= OPEN_MAX {

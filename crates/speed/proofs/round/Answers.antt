@@ -1,5 +1,5 @@
 use Rattle.std.proofs.Common.{◌≡◌, ℕ, ap, ◌∙◌}
-use Rattle.machine.specs.States.{appliedAll, undoneTimes}
+use Rattle.machine.specs.States.{applied_all, undone_times}
 use Rattle.machine.proofs.Several.{no_trace}
 use Rattle.speed.proofs.round.Goals as goal
 
@@ -8,6 +8,6 @@ returns g c =
     let m = g.M.StateMachine in
     let k = g.met.M.StateMachine.counted c.args.machine.now in
     c.undo-times.ensures
-    ∙ ap (undoneTimes c.apply-all-applied.result) c.apply-all-applied.ensures.after
-    ∙ ap (λ (n : ℕ). undoneTimes n (appliedAll m.opening m.next c.edits-of-edits.result (m.states c.args.machine.now))) c.apply-all-applied.ensures.count
+    ∙ ap (undone_times c.apply-all-applied.result) c.apply-all-applied.ensures.after
+    ∙ ap (λ (n : ℕ). undone_times n (applied_all m.opening m.next c.edits-of-edits.result (m.states c.args.machine.now))) c.apply-all-applied.ensures.count
     ∙ no_trace m.opening m.next c.edits-of-edits.result (m.states c.args.machine.now) k.some k.few

@@ -1,5 +1,5 @@
 use Rattle.std.proofs.Common.{◌≡◌, ℕ, List, ap, ◌∙◌}
-use Rattle.machine.specs.States.{appliedAll, undoneTimes}
+use Rattle.machine.specs.States.{applied_all, undone_times}
 use Rattle.machine.proofs.Several.{no_trace}
 use Rattle.machine.proofs.rehearsal.rehearse.Goals as goal
 
@@ -7,7 +7,7 @@ pub returns : goal.returns
 returns g c =
     let m = g.M.StateMachine in
     let k = g.met.M.StateMachine.counted c.args.machine.now in
-    c.undo-times.ensures
-    ∙ ap (undoneTimes c.apply-all-applied.result) c.apply-all-applied.ensures.after
-    ∙ ap (λ (n : ℕ). undoneTimes n (appliedAll m.opening m.next c.args.edits.now (m.states c.args.machine.now))) c.apply-all-applied.ensures.count
+    c.undo_times.ensures
+    ∙ ap (undone_times c.apply_all-applied.result) c.apply_all-applied.ensures.after
+    ∙ ap (λ (n : ℕ). undone_times n (applied_all m.opening m.next c.args.edits.now (m.states c.args.machine.now))) c.apply_all-applied.ensures.count
     ∙ no_trace m.opening m.next c.args.edits.now (m.states c.args.machine.now) k.some k.few

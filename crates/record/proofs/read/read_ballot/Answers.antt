@@ -5,4 +5,4 @@ use Rattle.record.proofs.read.read_ballot.Goals as goal
 pub returns : goal.returns
 returns c =
     let long : length c.args.fields.now ≡ 6 = search rules in
-    ballot_law c.args.fields.now _ _ long c.type-inv.fields c.from-le-bytes-term.ensures c.from-le-bytes-vote.ensures
+    ballot_law c.args.fields.now _ _ long c.type_inv.fields c.from_le_bytes-term.ensures c.from_le_bytes-vote.ensures

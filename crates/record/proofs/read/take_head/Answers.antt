@@ -5,4 +5,4 @@ use Rattle.record.proofs.read.take_head.Goals as goal
 pub returns : goal.returns
 returns c =
     let long : 4 ≤ length c.args.bytes.now = search rules in
-    head_law c.args.bytes.now _ _ long c.type-inv.bytes c.from-le-bytes-length.ensures c.from-le-bytes-kind.ensures
+    head_law c.args.bytes.now _ _ long c.type_inv.bytes c.from_le_bytes-length.ensures c.from_le_bytes-kind.ensures

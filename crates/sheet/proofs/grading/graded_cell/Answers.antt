@@ -10,7 +10,7 @@ returns c =
     let f3 : SFits w32 c.args.q = c.ranges.q in
     let h : c.args.i < 2 ^ 31 = omega arith in
     let k : SFits w32 (pos (c.args.i + 1)) = omega (arith, ints) in
-    let r : SFits w32 c.graded-number.result = record { sfits = c.graded-number.type-inv } in
-    let e : c.graded-number.result ≡ graded c.args.base c.args.size c.args.a c.args.q (pos (c.args.i + 1))
-    = simp (to_z_pos, to_z-of_z) at c.graded-number.ensures in
-    simp e at (simp to_z-of_z at c.cell-of.ensures)
+    let r : SFits w32 c.graded_number.result = record { sfits = c.graded_number.type_inv } in
+    let e : c.graded_number.result ≡ graded c.args.base c.args.size c.args.a c.args.q (pos (c.args.i + 1))
+    = simp (to_z_pos, to_z-of_z) at c.graded_number.ensures in
+    simp e at (simp to_z-of_z at c.cell_of.ensures)

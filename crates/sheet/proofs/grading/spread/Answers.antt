@@ -3,8 +3,8 @@ use Rattle.std.proofs.lemmas.Int.{ints, to_z-of_z}
 use Rattle.sheet.proofs.Ints.{product_bounded}
 use Rattle.sheet.proofs.grading.spread.Goals as goal
 
-pub overflow-mul-result-2 : goal.overflow-mul-result-2
-overflow-mul-result-2 c =
+pub overflow_mul-result-2 : goal.overflow_mul-result-2
+overflow_mul-result-2 c =
     let f : SFits w32 c.args.far = c.ranges.far in
     let g : SFits w32 c.args.a = c.ranges.a in
     let h : SFits w32 (pos 2 *ℤ c.args.far) = omega (arith, ints) in

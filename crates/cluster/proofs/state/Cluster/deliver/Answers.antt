@@ -1,23 +1,23 @@
 use Rattle.std.proofs.Common.{◌≡◌, vec_items, sym, refl, ap, ◌∙◌}
-use Rattle.server.specs.Turns.{kind_of, state_of, statesOf}
+use Rattle.server.specs.Turns.{kind_of, state_of, states_of}
 use Rattle.cluster.proofs.Deliveries.{deliver_none, deliver_down, deliver_done}
 use Rattle.cluster.proofs.state.Cluster.deliver.Goals as goal
 
 pub returns-in-None : goal.returns-in-None
 returns-in-None g c =
     let k = c.args.self.now in
-    deliver_none (kind_of g.M.StateMachine.opening g.M.StateMachine.next g.M.StateMachine.cell) (state_of g.S.Store.meaning g.M.StateMachine.states) (statesOf g.S.Store.meaning g.M.StateMachine.states) (vec_items k.servers) (vec_items k.network.messages) c.args.position c.args.keep (sym c.in-None.is ∙ c.message-at.ensures)
+    deliver_none (kind_of g.M.StateMachine.opening g.M.StateMachine.next g.M.StateMachine.cell) (state_of g.S.Store.meaning g.M.StateMachine.states) (states_of g.S.Store.meaning g.M.StateMachine.states) (vec_items k.servers) (vec_items k.network.messages) c.args.position c.args.keep (sym c.in-None.is ∙ c.message-at.ensures)
 
 pub returns-then-not-s : goal.returns-then-not-s
 returns-then-not-s g c =
     let k = c.args.self.now in
-    deliver_down (kind_of g.M.StateMachine.opening g.M.StateMachine.next g.M.StateMachine.cell) (state_of g.S.Store.meaning g.M.StateMachine.states) (statesOf g.S.Store.meaning g.M.StateMachine.states) (vec_items k.servers) (vec_items k.network.messages) c.args.position c.args.keep c.in-Some.message (sym c.in-Some.is ∙ c.message-at.ensures)
+    deliver_down (kind_of g.M.StateMachine.opening g.M.StateMachine.next g.M.StateMachine.cell) (state_of g.S.Store.meaning g.M.StateMachine.states) (states_of g.S.Store.meaning g.M.StateMachine.states) (vec_items k.servers) (vec_items k.network.messages) c.args.position c.args.keep c.in-Some.message (sym c.in-Some.is ∙ c.message-at.ensures)
     _ c.index-mut-s.result.now k.three c.place-of.ensures.is c.index-mut-s.ensures.value _ refl c.if-not-s.true
 
 pub returns-else-not-s : goal.returns-else-not-s
 returns-else-not-s g c =
     let k = c.args.self.now in
-    deliver_done (kind_of g.M.StateMachine.opening g.M.StateMachine.next g.M.StateMachine.cell) (state_of g.S.Store.meaning g.M.StateMachine.states) (statesOf g.S.Store.meaning g.M.StateMachine.states) (vec_items k.servers) (vec_items k.network.messages) c.args.position c.args.keep c.in-Some.message (sym c.in-Some.is ∙ c.message-at.ensures)
+    deliver_done (kind_of g.M.StateMachine.opening g.M.StateMachine.next g.M.StateMachine.cell) (state_of g.S.Store.meaning g.M.StateMachine.states) (states_of g.S.Store.meaning g.M.StateMachine.states) (vec_items k.servers) (vec_items k.network.messages) c.args.position c.args.keep c.in-Some.message (sym c.in-Some.is ∙ c.message-at.ensures)
     _ c.index-mut-s.result.now k.three c.place-of.ensures.is c.index-mut-s.ensures.value
     _ c.hear-reply.result c.post-some.result (vec_items c.take-out.new.self.messages) (vec_items c.post-some.new.self.messages) c.if-not-s.false
     c.hear-reply.ensures.turns.goes c.hear-reply.ensures.turns.moves c.hear-reply.ensures.says c.take-out.ensures c.post-some.ensures.messages c.post-some.ensures.lost

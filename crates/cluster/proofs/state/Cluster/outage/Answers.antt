@@ -3,7 +3,7 @@ use Rattle.protocol.specs.State.{change}
 use Rattle.protocol.specs.Rules.{fails}
 use Rattle.protocol.specs.Calls.{outage, said, keeps, outage_answer}
 use Rattle.cluster.specs.Meaning.{model}
-use Rattle.server.specs.Turns.{kind_of, state_of, statesOf}
+use Rattle.server.specs.Turns.{kind_of, state_of, states_of}
 use Rattle.server.specs.Answers.{kept_by, may_keep_at}
 use Rattle.cluster.proofs.Threes.{numbered_none}
 use Rattle.cluster.proofs.Links.{nobody, on_one, may_keep_by}
@@ -12,8 +12,8 @@ use Rattle.cluster.proofs.state.Cluster.outage.Goals as goal
 pub returns-in-None : goal.returns-in-None
 returns-in-None g c =
     let k = c.args.self.now in
-    let w = (model (kind_of g.M.StateMachine.opening g.M.StateMachine.next g.M.StateMachine.cell) (state_of g.S.Store.meaning g.M.StateMachine.states) (statesOf g.S.Store.meaning g.M.StateMachine.states) (vec_items k.servers) (vec_items k.network.messages)).core in
-    nobody (kind_of g.M.StateMachine.opening g.M.StateMachine.next g.M.StateMachine.cell) (state_of g.S.Store.meaning g.M.StateMachine.states) (statesOf g.S.Store.meaning g.M.StateMachine.states) (vec_items k.servers) (vec_items k.network.messages) c.args.server (sym c.in-None.is ∙ c.server-numbered.ensures)
+    let w = (model (kind_of g.M.StateMachine.opening g.M.StateMachine.next g.M.StateMachine.cell) (state_of g.S.Store.meaning g.M.StateMachine.states) (states_of g.S.Store.meaning g.M.StateMachine.states) (vec_items k.servers) (vec_items k.network.messages)).core in
+    nobody (kind_of g.M.StateMachine.opening g.M.StateMachine.next g.M.StateMachine.cell) (state_of g.S.Store.meaning g.M.StateMachine.states) (states_of g.S.Store.meaning g.M.StateMachine.states) (vec_items k.servers) (vec_items k.network.messages) c.args.server (sym c.in-None.is ∙ c.server-numbered.ensures)
     (outage c.args.server 0) (λ r. said keeps (outage_answer (w.server r) 0)) (λ r. change w r (fails 0 (w.server r))) refl refl
     (numbered_none c.args.server (λ r. may_keep_at 0 (w.server r)) true (sym c.in-None.is ∙ c.server-numbered.ensures))
 
@@ -21,7 +21,7 @@ pub returns-in-Some : goal.returns-in-Some
 returns-in-Some g c =
     let k = c.args.self.now in
     let n = kept_by c.outage.result in
-    on_one (kind_of g.M.StateMachine.opening g.M.StateMachine.next g.M.StateMachine.cell) (state_of g.S.Store.meaning g.M.StateMachine.states) (statesOf g.S.Store.meaning g.M.StateMachine.states) (vec_items k.servers) (vec_items k.network.messages) c.in-Some.me _ c.index-mut-s.result.now k.three c.place-of.ensures.is c.index-mut-s.ensures.value
+    on_one (kind_of g.M.StateMachine.opening g.M.StateMachine.next g.M.StateMachine.cell) (state_of g.S.Store.meaning g.M.StateMachine.states) (states_of g.S.Store.meaning g.M.StateMachine.states) (vec_items k.servers) (vec_items k.network.messages) c.in-Some.me _ c.index-mut-s.result.now k.three c.place-of.ensures.is c.index-mut-s.ensures.value
     c.args.server (sym c.in-Some.is ∙ c.server-numbered.ensures) (outage c.args.server n) _ (λ r s. said keeps (outage_answer s n)) (λ r. fails n) _
     (ap (said keeps) c.outage.ensures.says) c.outage.ensures.turns.goes c.outage.ensures.turns.moves refl refl
-    (may_keep_by (kind_of g.M.StateMachine.opening g.M.StateMachine.next g.M.StateMachine.cell) (state_of g.S.Store.meaning g.M.StateMachine.states) (statesOf g.S.Store.meaning g.M.StateMachine.states) (vec_items k.servers) (vec_items k.network.messages) c.in-Some.me _ c.index-mut-s.result.now k.three c.place-of.ensures.is c.index-mut-s.ensures.value c.args.server (sym c.in-Some.is ∙ c.server-numbered.ensures) n c.outage.ensures.may)
+    (may_keep_by (kind_of g.M.StateMachine.opening g.M.StateMachine.next g.M.StateMachine.cell) (state_of g.S.Store.meaning g.M.StateMachine.states) (states_of g.S.Store.meaning g.M.StateMachine.states) (vec_items k.servers) (vec_items k.network.messages) c.in-Some.me _ c.index-mut-s.result.now k.three c.place-of.ensures.is c.index-mut-s.ensures.value c.args.server (sym c.in-Some.is ∙ c.server-numbered.ensures) n c.outage.ensures.may)

@@ -9,9 +9,9 @@ unfolding next
 returns-in-Some c =
     let f : SFits w32 c.args.edit.row = search rules in
     let s = cells_of c.args.self.now in
-    let e : cells_of c.replace-row.new.self ≡ with_row s c.args.edit.row c.in-Some.row.cells = simp to_z-of_z at c.replace-row.ensures in
+    let e : cells_of c.replace_row.new.self ≡ with_row s c.args.edit.row c.in-Some.row.cells = simp to_z-of_z at c.replace_row.ensures in
     e ∙ ap (replaced_by s c.args.edit.row) c.in-Some.ensures
 
-pub returns-in-default : goal.returns-in-default
+pub returns-in_default : goal.returns-in_default
 unfolding next
-returns-in-default c = ap (replaced_by (cells_of c.args.self.now) c.args.edit.row) c.in-default.ensures
+returns-in_default c = ap (replaced_by (cells_of c.args.self.now) c.args.edit.row) c.in_default.ensures

@@ -12,7 +12,7 @@ returns-then-within c =
     let f : SFits w32 c.args.number = c.ranges.number in
     let v : c.within.result ≡ is_row c.args.number = simp to_z-of_z at c.within.ensures.value in
     let b : is_row c.args.number ≡ true = sym v ∙ c.if-within.true in
-    let p : c.place-of.result ≡ place c.args.number = simp to_z-of_z at c.place-of.ensures.value in
-    map-set (λ (r : Row). r.cells) c.args.self.now.rows c.place-of.result c.args.row
+    let p : c.place_of.result ≡ place c.args.number = simp to_z-of_z at c.place_of.ensures.value in
+    map-set (λ (r : Row). r.cells) c.args.self.now.rows c.place_of.result c.args.row
     ∙ ap (λ (i : ℕ). set (cells_of c.args.self.now) i c.args.row.cells) p
     ∙ sym (cond-true _ _ (cells_of c.args.self.now) b)

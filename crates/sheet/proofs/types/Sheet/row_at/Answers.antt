@@ -11,9 +11,9 @@ pub returns : goal.returns
 returns c =
     let f : SFits w32 c.args.number = c.ranges.number in
     let b : is_row c.args.number ≡ true = grind (arith, ints) in
-    let p : c.place-of.result ≡ place c.args.number = simp to_z-of_z at c.place-of.ensures.value in
+    let p : c.place_of.result ≡ place c.args.number = simp to_z-of_z at c.place_of.ensures.value in
     let h : length c.args.self.now.rows ≡ 8 = search rules in
-    let l : c.place-of.result < length c.args.self.now.rows = omega (arith, ints, c.place-of.ensures.number) in
-    ap Some (sym (get_or-map (λ (r : Row). r.cells) c.args.self.now.rows c.place-of.result c.index-self-place-of.result [] l)
+    let l : c.place_of.result < length c.args.self.now.rows = omega (arith, ints, c.place_of.ensures.number) in
+    ap Some (sym (get_or-map (λ (r : Row). r.cells) c.args.self.now.rows c.place_of.result c.index-self-place_of.result [] l)
     ∙ ap (λ (i : ℕ). get_or (cells_of c.args.self.now) i []) p)
     ∙ sym (cond-true _ _ None b)

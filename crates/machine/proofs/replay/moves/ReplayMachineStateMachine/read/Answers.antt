@@ -12,5 +12,5 @@ returns c =
     let f : SFits w32 c.args.row = c.ranges.row in
     let g : SFits w32 c.args.size = c.ranges.size in
     let e : c.cell.result ≡ cell_at (cells_of c.replayed.result) c.args.row c.args.size = simp to_z-of_z at c.cell.ensures in
-    ap told c.ok-or.ensures.value ∙ read_told c.cell.result
+    ap told c.ok_or.ensures.value ∙ read_told c.cell.result
     ∙ ap read_answer (e ∙ ap (λ (s : List (List ℕ)). cell_at s c.args.row c.args.size) c.replayed.ensures)

@@ -1,10 +1,10 @@
 use Rattle.std.proofs.Common.{ℕ, List, [], ◌∷◌, ap, ◌∙◌}
 use Rattle.sheet.specs.Cells.{cells_of}
-use Rattle.machine.specs.Sheets.{replayStates, steps_on}
+use Rattle.machine.specs.Sheets.{replay_states, steps_on}
 use Rattle.machine.proofs.replay.moves.ReplayMachineStateMachine.reset.Goals as goal
 
 pub returns : goal.returns
-unfolding replayStates
+unfolding replay_states
 returns c =
     ap (steps_on (cells_of c.blank-self.result ∷ [])) c.clear.ensures.items
     ∙ ap (λ (s : List (List ℕ)). s ∷ []) c.blank-self.ensures

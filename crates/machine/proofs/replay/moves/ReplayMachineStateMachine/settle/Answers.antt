@@ -1,13 +1,13 @@
 use Rattle.std.proofs.Common.{◌≡◌, ℕ, ◌<◌, List, [], ◌∷◌, length, drop, vec_items, vec_len, ap, ◌∙◌, arith, rules}
 use Rattle.sheet.specs.Cells.{cells_of}
-use Rattle.machine.specs.Sheets.{replayStates, steps_on}
+use Rattle.machine.specs.Sheets.{replay_states, steps_on}
 use Rattle.machine.specs.Counts.{drop_told, drop_refused, settled_is, settled_same}
 use Rattle.machine.specs.StepsOn.{on_count, on_settled}
 use Rattle.machine.proofs.replay.moves.ReplayMachineStateMachine.settle.Goals as goal
 
-pub returns-then-is-empty : goal.returns-then-is-empty
-unfolding replayStates
-returns-then-is-empty c =
+pub returns-then-is_empty : goal.returns-then-is_empty
+unfolding replay_states
+returns-then-is_empty c =
     let es = vec_items c.args.self.now.edits in
     let l = on_count (cells_of c.args.self.now.oldest) es in
     let z : vec_len c.args.self.now.edits ≡ 0 = search rules in
@@ -15,7 +15,7 @@ returns-then-is-empty c =
     record { answer = drop_refused _ (length es) l h; after = settled_same _ (length es) l h }
 
 pub returns : goal.returns
-unfolding replayStates
+unfolding replay_states
 returns c =
     let s = cells_of c.args.self.now.oldest in
     let es = vec_items c.args.self.now.edits in

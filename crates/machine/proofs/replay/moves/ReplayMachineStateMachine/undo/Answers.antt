@@ -1,13 +1,13 @@
 use Rattle.std.proofs.Common.{◌≡◌, ◌<◌, [], ◌∷◌, length, vec_items, sym, ap, ◌∙◌, arith}
 use Rattle.std.proofs.lemmas.List.{append-nil}
 use Rattle.sheet.specs.Cells.{cells_of}
-use Rattle.machine.specs.Sheets.{replayStates, steps_on}
+use Rattle.machine.specs.Sheets.{replay_states, steps_on}
 use Rattle.machine.specs.Counts.{drop_told, drop_refused, undone_is, undone_same}
 use Rattle.machine.specs.StepsOn.{on_count, on_undone}
 use Rattle.machine.proofs.replay.moves.ReplayMachineStateMachine.undo.Goals as goal
 
 pub returns-in-Some : goal.returns-in-Some
-unfolding replayStates
+unfolding replay_states
 returns-in-Some c =
     let s = cells_of c.args.self.now.oldest in
     let es = vec_items c.args.self.now.edits in
@@ -19,7 +19,7 @@ returns-in-Some c =
     }
 
 pub returns-in-None : goal.returns-in-None
-unfolding replayStates
+unfolding replay_states
 returns-in-None c =
     let s = cells_of c.args.self.now.oldest in
     let es = vec_items c.args.self.now.edits in

@@ -1,11 +1,11 @@
 use Rattle.std.proofs.Common.{ℕ, List, [], ◌∷◌, reverse, ap, ◌∙◌}
 use Rattle.sheet.specs.Cells.{cells_of}
 use Rattle.machine.specs.declared.undo.Replaced.{Replaced}
-use Rattle.machine.specs.Sheets.{undoStates, steps_back}
+use Rattle.machine.specs.Sheets.{undo_states, steps_back}
 use Rattle.machine.proofs.undo.moves.UndoMachineStateMachine.reset.Goals as goal
 
 pub returns : goal.returns
-unfolding undoStates
+unfolding undo_states
 returns c =
     ap (λ (rs : List Replaced). steps_back (cells_of c.blank-self.result) (reverse rs)) c.clear.ensures.items
     ∙ ap (λ (s : List (List ℕ)). s ∷ []) c.blank-self.ensures

@@ -1,14 +1,14 @@
 use Rattle.std.proofs.Common.{◌≡◌, ℕ, ◌<◌, List, reverse, length, vec_items, vec_len, ap, ◌∙◌, arith, rules}
 use Rattle.sheet.specs.Cells.{cells_of}
 use Rattle.machine.specs.declared.undo.Replaced.{Replaced}
-use Rattle.machine.specs.Sheets.{undoStates, steps_back}
+use Rattle.machine.specs.Sheets.{undo_states, steps_back}
 use Rattle.machine.specs.Counts.{drop_told, drop_refused, settled_is, settled_same}
 use Rattle.machine.specs.StepsBack.{back_count, back_settled}
 use Rattle.machine.proofs.undo.moves.UndoMachineStateMachine.settle.Goals as goal
 
-pub returns-then-is-empty : goal.returns-then-is-empty
-unfolding undoStates
-returns-then-is-empty c =
+pub returns-then-is_empty : goal.returns-then-is_empty
+unfolding undo_states
+returns-then-is_empty c =
     let rs = vec_items c.args.self.now.replaced in
     let l = back_count (cells_of c.args.self.now.newest) rs in
     let z : vec_len c.args.self.now.replaced ≡ 0 = search rules in
@@ -16,7 +16,7 @@ returns-then-is-empty c =
     record { answer = drop_refused _ (length rs) l h; after = settled_same _ (length rs) l h }
 
 pub returns : goal.returns
-unfolding undoStates
+unfolding undo_states
 returns c =
     let s = cells_of c.args.self.now.newest in
     let rs = vec_items c.args.self.now.replaced in
