@@ -64,8 +64,8 @@ pub trait Store {
 
 // After a sync no crash loses anything, whatever the store.
 pub fn sync_then_crash<S: Store>(store: &mut S, wish: usize) -> usize
-    ensures all { result ≡ length (meaning store.old).entries }
-    ensures after { meaning store.new ≡ synced (meaning store.old) }
+    ensures all { result ≡ length (S.meaning store.old).entries }
+    ensures after { S.meaning store.new ≡ synced (S.meaning store.old) }
 {
     store.sync();
     store.crash(wish)

@@ -13,6 +13,6 @@ pub returns-else-tenths-lt0 : goal.returns-else-tenths-lt0
 returns-else-tenths-lt0 c =
     let f : SFits w32 c.args.tenths = c.ranges.tenths in
     let l : lt_z c.args.tenths (pos 0) ≡ false = simp to_z-of_z at c.if-tenths-lt0.false in
-    let k : c.unsigned-abs-size.result ≡ nat_abs c.args.tenths = simp to_z-of_z at c.unsigned-abs-size.ensures.value in
-    let e : in_millimetres c.args.tenths ≡ pointed c.unsigned-abs-size.result = not_below c.args.tenths l ∙ ap pointed (sym k) in
+    let k : c.unsigned_abs-size.result ≡ nat_abs c.args.tenths = simp to_z-of_z at c.unsigned_abs-size.ensures.value in
+    let e : in_millimetres c.args.tenths ≡ pointed c.unsigned_abs-size.result = not_below c.args.tenths l ∙ ap pointed (sym k) in
     simp e (search rules)

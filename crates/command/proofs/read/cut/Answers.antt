@@ -3,4 +3,4 @@ use Rattle.std.proofs.lemmas.Str.Pattern.{split_parts}
 use Rattle.command.proofs.read.cut.Goals as goal
 
 pub returns : goal.returns
-returns c = split_parts 32 c.args.text.now _ c.split-once.ensures.cases (lit< tt)
+returns c = split_parts 32 c.args.text.now _ c.split_once.ensures.cases (lit< tt)

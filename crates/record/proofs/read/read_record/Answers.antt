@@ -30,18 +30,18 @@ returns-in_err-fields c =
     let a = short c.args.bytes.now c.args.offset (inr (omega (arith, h.0, h.2, b.0))) in
     rw (p.1, p.2, b.1) (record { answer = a; back = reads_back _ _ (Err _) tt a })
 
-pub returns-in-err-read-ballot : goal.returns-in-err-read-ballot
-returns-in-err-read-ballot c =
-    let p = err_from_is_err_and c.from-residual-in-err-read-ballot.result c.from-residual-in-err-read-ballot.ensures.1 in
-    let b = c.in_err-read-ballot.ensures in
-    let a = wrong_ballot _ _ _ _ c.args.offset (apart (goal.at.returns-in-err-read-ballot c).In_ok-fields) c.in-1.is b.0 in
+pub returns-in_err-read_ballot-in-1 : goal.returns-in_err-read_ballot-in-1
+returns-in_err-read_ballot-in-1 c =
+    let p = err_from_is_err_and c.from_residual-in_err-read_ballot-in-1.result c.from_residual-in_err-read_ballot-in-1.ensures.1 in
+    let b = c.in_err-read_ballot-in-1.ensures in
+    let a = wrong_ballot _ _ _ _ c.args.offset (apart (goal.at.returns-in_err-read_ballot-in-1 c).In_ok-fields) c.in-1.is b.0 in
     rw (p.1, p.2, b.1) (record { answer = a; back = reads_back _ _ (Err _) tt a })
 
-pub returns-in-err-read-entry : goal.returns-in-err-read-entry
-returns-in-err-read-entry c =
-    let p = err_from_is_err_and c.from-residual-in-err-read-entry.result c.from-residual-in-err-read-entry.ensures.1 in
-    let b = c.in_err-read-entry.ensures in
-    let a = wrong_entry _ _ _ _ c.args.offset (apart (goal.at.returns-in-err-read-entry c).In_ok-fields) c.in-2.is b.0 in
+pub returns-in_err-read_entry-in-2 : goal.returns-in_err-read_entry-in-2
+returns-in_err-read_entry-in-2 c =
+    let p = err_from_is_err_and c.from_residual-in_err-read_entry-in-2.result c.from_residual-in_err-read_entry-in-2.ensures.1 in
+    let b = c.in_err-read_entry-in-2.ensures in
+    let a = wrong_entry _ _ _ _ c.args.offset (apart (goal.at.returns-in_err-read_entry-in-2 c).In_ok-fields) c.in-2.is b.0 in
     rw (p.1, p.2, b.1) (record { answer = a; back = reads_back _ _ (Err _) tt a })
 
 pub returns-in_default : goal.returns-in_default
@@ -49,14 +49,14 @@ returns-in_default c =
     let a = wrong_kind _ _ _ _ c.args.offset (apart (goal.at.returns-in_default c).In_ok-fields) (search rules) (search rules) in
     record { answer = a; back = reads_back _ c.args.offset (Err _) tt a }
 
-pub returns-in-ok-read-ballot : goal.returns-in-ok-read-ballot
-returns-in-ok-read-ballot c =
-    let a = whole_ballot _ _ _ _ _ (apart (goal.at.returns-in-ok-read-ballot c).In_ok-fields) c.in-1.is c.in_ok-read-ballot.ensures in
-    let f : BallotFits c.in_ok-read-ballot.field-0 = (search rules, search rules) in
+pub returns-in_ok-read_ballot-in-1 : goal.returns-in_ok-read_ballot-in-1
+returns-in_ok-read_ballot-in-1 c =
+    let a = whole_ballot _ _ _ _ _ (apart (goal.at.returns-in_ok-read_ballot-in-1 c).In_ok-fields) c.in-1.is c.in_ok-read_ballot-in-1.ensures in
+    let f : BallotFits c.in_ok-read_ballot-in-1.field-0 = (search rules, search rules) in
     record { answer = a; back = reads_back _ c.args.offset (Ok _) f a }
 
-pub returns-in-ok-read-entry : goal.returns-in-ok-read-entry
-returns-in-ok-read-entry c =
-    let a = whole_entry _ _ _ _ _ (apart (goal.at.returns-in-ok-read-entry c).In_ok-fields) c.in-2.is c.in_ok-read-entry.ensures in
-    let f : EntryFits c.in_ok-read-entry.field-0 = (search rules, search rules, search rules, search rules, search rules, search rules) in
+pub returns-in_ok-read_entry-in-2 : goal.returns-in_ok-read_entry-in-2
+returns-in_ok-read_entry-in-2 c =
+    let a = whole_entry _ _ _ _ _ (apart (goal.at.returns-in_ok-read_entry-in-2 c).In_ok-fields) c.in-2.is c.in_ok-read_entry-in-2.ensures in
+    let f : EntryFits c.in_ok-read_entry-in-2.field-0 = (search rules, search rules, search rules, search rules, search rules, search rules) in
     record { answer = a; back = reads_back _ c.args.offset (Ok _) f a }
