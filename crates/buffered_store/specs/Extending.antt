@@ -1,7 +1,7 @@
 -- A store with more entries: one by one and all at once, cut, and read.
 use Rattle.std.specs.Prelude.{◌≡◌, ℕ, zero, suc, ◌+◌, ◌-◌, ◌<◌, ◌≤◌, min, true, false, ltb, List, [], ◌∷◌, ◌++◌, length, get_or, take, Ok, nat_lt, slice_index_or, refl}
 use Rattle.std.proofs.Common.{sym, ap, ◌∙◌, inl, inr, append_assoc, append-nil, arith, length-append, length-take, take_all, take-take, get_or-take}
-use Rattle.std.proofs.Math.Seq.{take_nil, take-append-add}
+use Rattle.std.proofs.Math.Seq.{take-nil, take-append-add}
 use Rattle.std.specs.Option.{ok_or}
 use Rattle.std.specs.List.{slice_get}
 use Rattle.std.proofs.lemmas.List.{get_or-append_right, take-append-le}
@@ -15,7 +15,7 @@ abbrev with_entries : StoreState → List Entry → StoreState
 with_entries m es = record { term = m.term; vote = m.vote; entries = es; durable = m.durable }
 
 pub extended_none : (m : StoreState) → extended [] m ≡ m
-extended_none m = ap (with_entries m) (ap (λ (t : List Entry). m.entries ++ t) (take_nil (64 - length m.entries)) ∙ append-nil m.entries)
+extended_none m = ap (with_entries m) (ap (λ (t : List Entry). m.entries ++ t) (take-nil (64 - length m.entries)) ∙ append-nil m.entries)
 
 pub extended_push : (m : StoreState) (xs : List Entry) (e : Entry) → length m.entries ≤ 64 → extended (xs ++ e ∷ []) m ≡ appended e (extended xs m)
 extended_push m xs e few =

@@ -14,8 +14,8 @@ use store::Store;
 
 // What is durable in a store.
 fn durable_contents<S: Store>(store: &S) -> Contents
-    ensures ballot { result.ballot ≡ ballot_of (meaning store.now) }
-    ensures entries { held result ≡ durable_of (meaning store.now) }
+    ensures ballot { result.ballot ≡ ballot_of (S.meaning store.now) }
+    ensures entries { held result ≡ durable_of (S.meaning store.now) }
     ensures ballot_fits { BallotFits result.ballot }
     ensures entries_fit { AllFit (held result) }
 {
@@ -32,23 +32,23 @@ fn durable_contents<S: Store>(store: &S) -> Contents
 
 // Writes the image of a store at the front of the buffer, and tells its length; the bytes behind it stay.
 pub fn write<S: Store>(store: &S, buffer: &mut [u8]) -> Result<usize, WriteFault>
-    ensures answer { result ≡ image_answer (meaning store.now) (length buffer.old) }
-    ensures after { buffer.new ≡ image_after (meaning store.now) buffer.old }
-    ensures writable { is_ok result ≡ true → Writable (meaning store.now) }
+    ensures answer { result ≡ image_answer (S.meaning store.now) (length buffer.old) }
+    ensures after { buffer.new ≡ image_after (S.meaning store.now) buffer.old }
+    ensures writable { is_ok result ≡ true → Writable (S.meaning store.now) }
 {
     durable_contents(store).write(buffer)
 }
 
 fn is_empty<S: Store>(store: &S) -> bool
-    ensures { result ≡ is_empty (meaning store.now) }
+    ensures { result ≡ is_empty (S.meaning store.now) }
 {
     store.term() == 0 && store.vote() == 0 && store.len() == 0
 }
 
 // Puts the contents into an empty store, every entry durable.
 fn load<S: Store>(store: &mut S, contents: &Contents)
-    requires { meaning store.old ≡ cleared }
-    ensures { meaning store.new ≡ loaded contents.now.ballot (held contents.now) }
+    requires { S.meaning store.old ≡ cleared }
+    ensures { S.meaning store.new ≡ loaded contents.now.ballot (held contents.now) }
 {
     store.set(contents.ballot.term, contents.ballot.vote);
     for entry in contents.logged() {
@@ -59,9 +59,9 @@ fn load<S: Store>(store: &mut S, contents: &Contents)
 
 // Reads an image into a store, every entry durable. The whole image is checked before the store is written to.
 pub fn read<S: Store>(store: &mut S, bytes: &[u8]) -> Result<(), ImageFault>
-    ensures answer { ReadInto (meaning store.old) bytes.now result (meaning store.new) }
-    ensures back { ReadsBackInto (meaning store.old) bytes.now result (meaning store.new) }
-    ensures accepted { Accepted bytes.now result (meaning store.new) }
+    ensures answer { ReadInto (S.meaning store.old) bytes.now result (S.meaning store.new) }
+    ensures back { ReadsBackInto (S.meaning store.old) bytes.now result (S.meaning store.new) }
+    ensures accepted { Accepted bytes.now result (S.meaning store.new) }
 {
     if !is_empty(store) {
         return Err(ImageFault::NotEmpty);

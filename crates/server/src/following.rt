@@ -13,7 +13,7 @@ use store::Store;
 
 // Settles as often as that, as far as there are states to settle.
 fn settle_times<M: StateMachine>(machine: &mut M, times: u32)
-    ensures { states machine.new ≡ settled_times times (states machine.old) }
+    ensures { M.states machine.new ≡ settled_times times (M.states machine.old) }
 {
     for _i in 0..times {
         let _ = machine.settle();

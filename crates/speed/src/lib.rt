@@ -44,7 +44,7 @@ fn edits_of(n: u32) -> [Edit; 16] {
 
 // One round: the cell that was read. The machine is left as it was.
 fn round<M: StateMachine>(machine: &mut M, n: u32) -> u16
-    ensures { states machine.new ≡ states machine.old }
+    ensures { M.states machine.new ≡ M.states machine.old }
 {
     let edits = edits_of(n);
     let applied = apply_all(machine, &edits);

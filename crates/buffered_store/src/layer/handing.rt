@@ -8,7 +8,7 @@ use store::Store;
 
 // Appends these entries in order, as many as the store has room for.
 fn append_all<S: Store>(below: &mut S, entries: &[Entry])
-    ensures { meaning below.new ≡ extended entries.now (meaning below.old) }
+    ensures { S.meaning below.new ≡ extended entries.now (S.meaning below.old) }
 {
     for entry in entries {
         let _ = below.append(*entry);
@@ -17,7 +17,7 @@ fn append_all<S: Store>(below: &mut S, entries: &[Entry])
 
 // Hands all entries down.
 pub(crate) fn hand_down<S: Store>(below: &mut S, own: &mut Vec<Entry>)
-    ensures below { meaning below.new ≡ extended own.old.items (meaning below.old) }
+    ensures below { S.meaning below.new ≡ extended own.old.items (S.meaning below.old) }
     ensures own { own.new.items ≡ [] }
     ensures capacity { vec_capacity own.new ≡ vec_capacity own.old }
 {
@@ -27,7 +27,7 @@ pub(crate) fn hand_down<S: Store>(below: &mut S, own: &mut Vec<Entry>)
 
 // Hands all entries down where as many are held back as may be.
 pub(crate) fn make_room<S: Store>(below: &mut S, own: &mut Vec<Entry>)
-    ensures layer { record { below = meaning below.exit.now; own = own.new.items } ≡ with_room (record { below = meaning below.entry.now; own = own.old.items }) }
+    ensures layer { record { below = S.meaning below.exit.now; own = own.new.items } ≡ with_room (record { below = S.meaning below.entry.now; own = own.old.items }) }
     ensures room { length own.new.items < 8 }
     ensures capacity { vec_capacity own.new ≡ vec_capacity own.old }
 {

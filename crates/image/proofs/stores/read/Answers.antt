@@ -6,27 +6,27 @@ use Rattle.image.specs.Stores.{is_empty, ReadInto}
 use Rattle.image.proofs.Loads.{empty_is, read_back, accepted}
 use Rattle.image.proofs.stores.read.Goals as goal
 
-pub returns-then-not-is-empty : goal.returns-then-not-is-empty
-returns-then-not-is-empty g c =
-    let h : is_empty (g.S.Store.meaning c.args.store.now) ≡ false = sym c.if-not-is-empty.ensures in
+pub returns-then-not-is_empty : goal.returns-then-not-is_empty
+returns-then-not-is_empty g c =
+    let h : is_empty (g.S.Store.meaning c.args.store.now) ≡ false = sym c.if-not-is_empty.ensures in
     let a : ReadInto (g.S.Store.meaning c.args.store.now) c.args.bytes.now (Err NotEmpty) (g.S.Store.meaning c.args.store.now)
     = record { not_empty = λ _. (refl, refl); empty = λ t. absurd (both_ways _ h t) } in
     record { answer = a; back = read_back _ _ _ _ a; accepted = accepted _ _ _ _ a }
 
-pub returns-in-err-contents : goal.returns-in-err-contents
-returns-in-err-contents g c =
-    let p = err_from_is_err_and c.from-residual.result c.from-residual.ensures.1 in
-    let h : is_empty (g.S.Store.meaning c.args.store.now) ≡ true = sym c.if-not-is-empty.ensures in
-    let a : ReadInto (g.S.Store.meaning c.args.store.now) c.args.bytes.now c.from-residual.result (g.S.Store.meaning c.args.store.now)
-    = record { not_empty = λ t. absurd (both_ways _ t h); empty = λ _. (_, c.in-err-contents.ensures, p.1 ∙ ap Err p.2, refl) } in
+pub returns-in_err-contents : goal.returns-in_err-contents
+returns-in_err-contents g c =
+    let p = err_from_is_err_and c.from_residual.result c.from_residual.ensures.1 in
+    let h : is_empty (g.S.Store.meaning c.args.store.now) ≡ true = sym c.if-not-is_empty.ensures in
+    let a : ReadInto (g.S.Store.meaning c.args.store.now) c.args.bytes.now c.from_residual.result (g.S.Store.meaning c.args.store.now)
+    = record { not_empty = λ t. absurd (both_ways _ t h); empty = λ _. (_, c.in_err-contents.ensures, p.1 ∙ ap Err p.2, refl) } in
     record { answer = a; back = read_back _ _ _ _ a; accepted = accepted _ _ _ _ a }
 
 pub load-requires : goal.load-requires
-load-requires g c = empty_is (g.S.Store.meaning c.args.store.now) (g.met.S.Store.sound c.args.store.now) (sym c.if-not-is-empty.ensures)
+load-requires g c = empty_is (g.S.Store.meaning c.args.store.now) (g.met.S.Store.sound c.args.store.now) (sym c.if-not-is_empty.ensures)
 
 pub returns : goal.returns
 returns g c =
-    let h : is_empty (g.S.Store.meaning c.args.store.now) ≡ true = sym c.if-not-is-empty.ensures in
+    let h : is_empty (g.S.Store.meaning c.args.store.now) ≡ true = sym c.if-not-is_empty.ensures in
     let a : ReadInto (g.S.Store.meaning c.args.store.now) c.args.bytes.now (Ok tt) (g.S.Store.meaning c.load.new.store)
-    = record { not_empty = λ t. absurd (both_ways _ t h); empty = λ _. (_, c.in-ok-contents.ensures, refl, c.load.ensures) } in
+    = record { not_empty = λ t. absurd (both_ways _ t h); empty = λ _. (_, c.in_ok-contents.ensures, refl, c.load.ensures) } in
     record { answer = a; back = read_back _ _ _ _ a; accepted = accepted _ _ _ _ a }

@@ -5,7 +5,7 @@ use Rattle.buffered_store.proofs.layer.BufferedStore.held_back.Goals as goal
 
 pub returns : goal.returns
 returns g c = record {
-  value = c.as-slice.ensures.value;
+  value = c.as_slice.ensures.value;
   few = search rules;
   joined = joined (layered g.S.Store.meaning c.args.self.now);
 }

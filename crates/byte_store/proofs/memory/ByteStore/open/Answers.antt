@@ -2,9 +2,9 @@ use Rattle.std.proofs.Common.{replicate, refl, arith}
 use Rattle.byte_store.specs.Steps.{opened_law, clear_law}
 use Rattle.byte_store.proofs.memory.ByteStore.open.Goals as goal
 
-pub invariant-of-result : goal.invariant-of-result
-invariant-of-result c =
-    (omega arith, (omega arith, (opened_law (replicate 1674 0) _ _ (omega arith, omega arith) c.put-ballot.ensures, ((λ k h. absurd (omega arith)), tt))))
+pub invariant_of-result : goal.invariant_of-result
+invariant_of-result c =
+    (omega arith, (omega arith, (opened_law (replicate 1674 0) _ _ (omega arith, omega arith) c.put_ballot.ensures, ((λ k h. absurd (omega arith)), tt))))
 
 pub returns : goal.returns
-returns c = clear_law (replicate 1674 0) c.put-ballot.new.bytes _ (omega arith, omega arith) c.put-ballot.ensures refl
+returns c = clear_law (replicate 1674 0) c.put_ballot.new.bytes _ (omega arith, omega arith) c.put_ballot.ensures refl

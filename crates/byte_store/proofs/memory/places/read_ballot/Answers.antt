@@ -6,18 +6,18 @@ use Rattle.byte_store.specs.Bytes.{opening_part, ballot_in}
 use Rattle.byte_store.specs.Decoding.{ballot_fits}
 use Rattle.byte_store.proofs.Reading.{opened_front, bytes_opening, answered_ok, answered_record}
 use Rattle.byte_store.proofs.memory.places.read_ballot.Goals as goal
-use Rattle.byte_store.proofs.memory.places.read_ballot.Goals.{After-read-record, After-unwrap-record}
+use Rattle.byte_store.proofs.memory.places.read_ballot.Goals.{After-read_record, After-unwrap-record}
 
-told : (c : After-read-record) → answered c.read-record.result ≡ Ok (Opening (ballot_in (opening_part c.args.bytes.now)), drop 10 c.args.bytes.now)
+told : (c : After-read_record) → answered c.read_record.result ≡ Ok (Opening (ballot_in (opening_part c.args.bytes.now)), drop 10 c.args.bytes.now)
 told c =
     let f : Bytes c.args.bytes.now = search rules in
-    c.read-record.ensures.back _ _ (ballot_fits (opening_part c.args.bytes.now) (bytes_opening c.args.bytes.now f)) (opened_front c.args.bytes.now c.requires)
+    c.read_record.ensures.back _ _ (ballot_fits (opening_part c.args.bytes.now) (bytes_opening c.args.bytes.now f)) (opened_front c.args.bytes.now c.requires)
 
 read : (c : After-unwrap-record) → c.unwrap-record.result.0 ≡ Opening (ballot_in (opening_part c.args.bytes.now))
-read c = answered_record _ c.unwrap-record.result _ _ (told (goal.at.After-unwrap-record c).After-read-record) c.unwrap-record.ensures
+read c = answered_record _ c.unwrap-record.result _ _ (told (goal.at.After-unwrap-record c).After-read_record) c.unwrap-record.ensures
 
 pub unwrap-record-requires : goal.unwrap-record-requires
-unwrap-record-requires c = answered_ok c.read-record.result _ (told c)
+unwrap-record-requires c = answered_ok c.read_record.result _ (told c)
 
 pub unreachable-requires : goal.unreachable-requires
 unreachable-requires c =

@@ -20,8 +20,8 @@ returns-then-n-below g c =
     let n = c.args.n in
     let l = layered g.S.Store.meaning c.args.self.now in
     let within : reaches c.args.n (buffered g.S.Store.meaning c.args.self.now) ≡ true = le-leb _ _ (subst (λ k. c.args.n ≤ k) c.len.ensures c.if-n-len.false) in
-    let above : leb (length (g.S.Store.meaning c.args.self.now.below).entries) c.args.n ≡ true = le-leb _ _ (subst (λ k. k ≤ c.args.n) c.len_below.ensures c.if-n-below.true) in
-    let kept = c.truncate.ensures.items ∙ ap (λ k. take (n - k) l.own) c.len_below.ensures in
+    let above : leb (length (g.S.Store.meaning c.args.self.now.below).entries) c.args.n ≡ true = le-leb _ _ (subst (λ k. k ≤ c.args.n) c.len-below.ensures c.if-n-below.true) in
+    let kept = c.truncate.ensures.items ∙ ap (λ k. take (n - k) l.own) c.len-below.ensures in
     let left = layer_of refl kept
     ∙ sym (cond-true (leb (length l.below.entries) n) (record { below = l.below; own = take (n - length l.below.entries) l.own }) (over (cut n l.below)) above)
     ∙ sym (cond-true (reaches n (whole l)) (cut_to n l) l within) in
@@ -34,7 +34,7 @@ returns g c =
     let m = g.S.Store.meaning c.args.self.now.below in
     let l = layered g.S.Store.meaning c.args.self.now in
     let within : reaches c.args.n (buffered g.S.Store.meaning c.args.self.now) ≡ true = le-leb _ _ (subst (λ k. c.args.n ≤ k) c.len.ensures c.if-n-len.false) in
-    let under : c.args.n < length (g.S.Store.meaning c.args.self.now.below).entries = subst (λ k. c.args.n < k) c.len_below.ensures c.if-n-below.false in
+    let under : c.args.n < length (g.S.Store.meaning c.args.self.now.below).entries = subst (λ k. c.args.n < k) c.len-below.ensures c.if-n-below.false in
     let inside : reaches c.args.n (g.S.Store.meaning c.args.self.now.below) ≡ true = le-leb _ _ (omega arith) in
     let left = layer_of (c.truncate-2.ensures.after ∙ cond-true (reaches n m) (cut n m) m inside) c.clear.ensures.items
     ∙ sym (cond-false (leb (length l.below.entries) n) (record { below = l.below; own = take (n - length l.below.entries) l.own }) (over (cut n l.below)) (lt-leb _ _ under))

@@ -2,9 +2,9 @@ use Rattle.std.proofs.Common.{refl, arith}
 use Rattle.byte_store.specs.Steps.{opened_law, clear_law}
 use Rattle.byte_store.proofs.memory.calls.ByteStoreStore.clear.Goals as goal
 
-pub invariant-of-self : goal.invariant-of-self
-invariant-of-self c =
-    (omega arith, (omega arith, (opened_law c.args.self.now.bytes _ _ (omega arith, omega arith) c.put-ballot.ensures, ((λ k h. absurd (omega arith)), tt))))
+pub invariant_of-self : goal.invariant_of-self
+invariant_of-self c =
+    (omega arith, (omega arith, (opened_law c.args.self.now.bytes _ _ (omega arith, omega arith) c.put_ballot.ensures, ((λ k h. absurd (omega arith)), tt))))
 
 pub returns : goal.returns
-returns c = clear_law c.args.self.now.bytes c.put-ballot.new.bytes _ (omega arith, omega arith) c.put-ballot.ensures refl
+returns c = clear_law c.args.self.now.bytes c.put_ballot.new.bytes _ (omega arith, omega arith) c.put_ballot.ensures refl

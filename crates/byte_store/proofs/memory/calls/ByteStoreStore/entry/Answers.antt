@@ -8,8 +8,8 @@ pub returns-then-n-self : goal.returns-then-n-self
 returns-then-n-self c =
     let s = c.args.self.now in
     let l = length_entries s.len s.bytes in
-    entry_read (kept s) c.args.n c.read-entry.result (omega arith) (omega arith)
-    (c.read-entry.ensures ∙ sym (entry_at s.len s.bytes (c.args.n - 1) c.read-entry.result (omega arith)))
+    entry_read (kept s) c.args.n c.read_entry.result (omega arith) (omega arith)
+    (c.read_entry.ensures ∙ sym (entry_at s.len s.bytes (c.args.n - 1) c.read_entry.result (omega arith)))
 
 pub returns-else-n-ge1 : goal.returns-else-n-ge1
 returns-else-n-ge1 c =

@@ -2,15 +2,15 @@ use Rattle.std.proofs.Common.{arith}
 use Rattle.byte_store.specs.Steps.{opened_law, placed_stays, set_law}
 use Rattle.byte_store.proofs.memory.calls.ByteStoreStore.set.Goals as goal
 
-pub invariant-of-self : goal.invariant-of-self
-invariant-of-self c =
+pub invariant_of-self : goal.invariant_of-self
+invariant_of-self c =
     let s = c.args.self.now in (
       s.held,
       (
         s.few,
         (
-          opened_law s.bytes _ _ (omega arith, omega arith) c.put-ballot.ensures,
-          (placed_stays s.bytes _ _ (omega arith, omega arith) c.put-ballot.ensures s.len s.placed, tt),
+          opened_law s.bytes _ _ (omega arith, omega arith) c.put_ballot.ensures,
+          (placed_stays s.bytes _ _ (omega arith, omega arith) c.put_ballot.ensures s.len s.placed, tt),
         ),
       ),
     )
@@ -18,4 +18,4 @@ invariant-of-self c =
 pub returns : goal.returns
 returns c =
     let s = c.args.self.now in
-    set_law s.bytes c.put-ballot.new.bytes _ (omega arith, omega arith) c.put-ballot.ensures s.len s.durable
+    set_law s.bytes c.put_ballot.new.bytes _ (omega arith, omega arith) c.put_ballot.ensures s.len s.durable
