@@ -13,7 +13,7 @@ pub const NO_CELLS: Cells = [[0; 12]; 8];
 
 // A cell of the newest sheet, and 0 where there is none.
 pub(crate) fn cell_at<M: StateMachine>(machine: &M, row: i32, size: i32) -> u16
-    ensures { result ≡ unwrap_or (cell (newest opening (states machine.now)) row size) 0 }
+    ensures { result ≡ unwrap_or (M.cell (newest M.opening (M.states machine.now)) row size) 0 }
 {
     machine.read(row, size).unwrap_or(0)
 }

@@ -4,7 +4,12 @@ use Rattle.byte_store.proofs.memory.ByteStore.open.Goals as goal
 
 pub invariant_of-result : goal.invariant_of-result
 invariant_of-result c =
-    (omega arith, (omega arith, (opened_law (replicate 1674 0) _ _ (omega arith, omega arith) c.put_ballot.ensures, ((λ k h. absurd (omega arith)), tt))))
+    record {
+      held = omega arith;
+      few = omega arith;
+      opened = opened_law (replicate 1674 0) _ _ (omega arith, omega arith) c.put_ballot.ensures;
+      placed = λ k h. absurd (omega arith);
+    }
 
 pub returns : goal.returns
 returns c = clear_law (replicate 1674 0) c.put_ballot.new.bytes _ (omega arith, omega arith) c.put_ballot.ensures refl

@@ -18,16 +18,13 @@ returns-then-self-ge-MAX_ENTRIES c =
 
 pub invariant_of-self : goal.invariant_of-self
 invariant_of-self c =
-    let s = c.args.self.now in (
-      omega arith,
-      (
-        omega arith,
-        (
-          opened_stays s.bytes _ _ s.len c.args.entry (fits c) (long c) c.put_entry.ensures s.opened,
-          (placed_more s.bytes _ _ s.len c.args.entry (fits c) (long c) c.put_entry.ensures s.placed, tt),
-        ),
-      ),
-    )
+    let s = c.args.self.now in
+    record {
+      held = omega arith;
+      few = omega arith;
+      opened = opened_stays s.bytes _ _ s.len c.args.entry (fits c) (long c) c.put_entry.ensures s.opened;
+      placed = placed_more s.bytes _ _ s.len c.args.entry (fits c) (long c) c.put_entry.ensures s.placed;
+    }
 
 pub returns : goal.returns
 returns c =

@@ -4,7 +4,12 @@ use Rattle.byte_store.proofs.memory.calls.ByteStoreStore.clear.Goals as goal
 
 pub invariant_of-self : goal.invariant_of-self
 invariant_of-self c =
-    (omega arith, (omega arith, (opened_law c.args.self.now.bytes _ _ (omega arith, omega arith) c.put_ballot.ensures, ((λ k h. absurd (omega arith)), tt))))
+    record {
+      held = omega arith;
+      few = omega arith;
+      opened = opened_law c.args.self.now.bytes _ _ (omega arith, omega arith) c.put_ballot.ensures;
+      placed = λ k h. absurd (omega arith);
+    }
 
 pub returns : goal.returns
 returns c = clear_law c.args.self.now.bytes c.put_ballot.new.bytes _ (omega arith, omega arith) c.put_ballot.ensures refl
