@@ -7,7 +7,7 @@ pub returns : goal.returns
 returns g c =
     let m = g.M.StateMachine in
     let k = g.met.M.StateMachine.counted c.args.machine.now in
-    c.undo-times.ensures
-    ∙ ap (undone_times c.apply-all-applied.result) c.apply-all-applied.ensures.after
-    ∙ ap (λ (n : ℕ). undone_times n (applied_all m.opening m.next c.edits-of-edits.result (m.states c.args.machine.now))) c.apply-all-applied.ensures.count
-    ∙ no_trace m.opening m.next c.edits-of-edits.result (m.states c.args.machine.now) k.some k.few
+    c.undo_times.ensures
+    ∙ ap (undone_times c.apply_all-applied.result) c.apply_all-applied.ensures.after
+    ∙ ap (λ (n : ℕ). undone_times n (applied_all m.opening m.next c.edits_of-edits.result (m.states c.args.machine.now))) c.apply_all-applied.ensures.count
+    ∙ no_trace m.opening m.next c.edits_of-edits.result (m.states c.args.machine.now) k.some k.few
