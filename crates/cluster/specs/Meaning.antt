@@ -1,6 +1,8 @@
 -- What a cluster means: one of the protocol's.
 use Rattle.std.specs.Prelude.{List, [], ◌∷◌, map, vec_items}
 use Rattle.store.specs.Stores.{StoreState}
+use Rattle.store.specs.declared.Store.{Ghosts as StoreGhosts}
+use Rattle.machine.specs.declared.state_machine.StateMachine.{Ghosts as MachineGhosts}
 use Rattle.protocol.specs.declared.ServerId.TheVariants.{One}
 use Rattle.protocol.specs.declared.Message.{Message}
 use Rattle.protocol.specs.State.{Server as State, Machine, Cluster as Model, core_opening}
@@ -19,5 +21,5 @@ model K view states xs p = record {
   states = of3 (K.opening ∷ []) (map states xs);
 }
 
-abbrev pub cluster_of : {S M X : Type 0} → (S → StoreState) → (M → List X) → Machine X → Cluster S M → Model X
+abbrev pub cluster_of : {S M X : Type 0} {s : StoreGhosts S} {m : MachineGhosts M} → (S → StoreState) → (M → List X) → Machine X → Cluster S M s m → Model X
 cluster_of meaning states K c = model K (state_of meaning states) (states_of meaning states) (vec_items c.servers) (vec_items c.network.messages)

@@ -11,4 +11,4 @@ returns-then-not-has g c =
 pub returns : goal.returns
 returns g c =
     let k = c.args.self.now in
-    lose_done (kind_of g.M.StateMachine.opening g.M.StateMachine.next g.M.StateMachine.cell) (state_of g.S.Store.meaning g.M.StateMachine.states) (states_of g.S.Store.meaning g.M.StateMachine.states) (vec_items k.servers) (vec_items k.network.messages) c.args.position (sym c.has.ensures ∙ c.if-not-has.false) _ c.take-out.ensures
+    lose_done (kind_of g.M.StateMachine.opening g.M.StateMachine.next g.M.StateMachine.cell) (state_of g.S.Store.meaning g.M.StateMachine.states) (states_of g.S.Store.meaning g.M.StateMachine.states) (vec_items k.servers) (vec_items k.network.messages) c.args.position (sym c.has.ensures ∙ c.if-not-has.false) _ c.take_out.ensures
