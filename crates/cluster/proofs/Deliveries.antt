@@ -8,8 +8,8 @@ use Rattle.protocol.specs.ServerIds.{put}
 use Rattle.protocol.specs.State.{Server as State, Core, Machine, joined_some, lost_some, change, with}
 use Rattle.protocol.specs.Elections.{caught_up}
 use Rattle.protocol.specs.Rules.{hears, replies, moved}
-use Rattle.protocol.specs.Calls.{deliver, Answer, refused, lost, said, has_message, message_at, left}
-use Rattle.protocol.proofs.Shelf.{put_here, put_there, put_all}
+use Rattle.protocol.specs.Calls.{deliver, refused, lost, said, has_message, message_at, left}
+use Rattle.protocol.proofs.Shelf.{put_all}
 use Rattle.node.specs.Meaning.{place}
 use Rattle.cluster.specs.Meaning.{model}
 use Rattle.cluster.specs.Called.{Called}

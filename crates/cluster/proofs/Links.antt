@@ -1,5 +1,5 @@
 -- From what the code did to one server and to the network, to a call of the rules.
-use Rattle.std.proofs.Common.{◌≡◌, ℕ, ◌-◌, ◌<◌, min, Bool, true, false, cond, not, ◌&&◌, ◌||◌, ltb, List, [], ◌∷◌, ◌++◌, map, length, get_or, set, Some, None, Option, sym, refl, ap, ◌∙◌, subst, arith}
+use Rattle.std.proofs.Common.{◌≡◌, ℕ, ◌-◌, ◌<◌, min, Bool, true, false, cond, not, ◌&&◌, ltb, List, [], ◌∷◌, ◌++◌, map, length, get_or, set, Some, None, sym, refl, ap, ◌∙◌, subst, arith}
 use mathlib.Core.Path.{fun_ext}
 use Rattle.std.proofs.lemmas.List.{length-map, get_or-map, map-set}
 use Rattle.std.proofs.lemmas.Bool.{cond-false, le-ltb}
@@ -8,9 +8,9 @@ use Rattle.protocol.specs.declared.ServerId.{ServerId}
 use Rattle.protocol.specs.declared.Message.{Message}
 use Rattle.protocol.specs.ServerIds.{numbered, put}
 use Rattle.protocol.specs.State.{Server as State, Core, Machine, Cluster as Model, opening, at, change, with}
-use Rattle.protocol.specs.Rules.{settled_times, may_keep, moved}
+use Rattle.protocol.specs.Rules.{settled_times, moved}
 use Rattle.protocol.specs.Calls.{Call, outage, Answer, refused, answer, after, core_after, Allowed}
-use Rattle.protocol.specs.Runs.{History, Run, following}
+use Rattle.protocol.specs.Runs.{Run, following}
 use Rattle.protocol.proofs.Shelf.{put_here, put_there, put_all}
 use Rattle.protocol.proofs.Tickets.{safe, goes_on}
 use Rattle.node.specs.Meaning.{place, of3}

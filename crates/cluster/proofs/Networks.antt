@@ -4,7 +4,7 @@ use Rattle.std.proofs.lemmas.List.{take_all, drop_all, append-nil}
 use Rattle.std.proofs.lemmas.Bool.{cond-true, cond-false}
 use Rattle.protocol.specs.declared.Message.{Message}
 use Rattle.protocol.specs.State.{Server as State, Core, Machine}
-use Rattle.protocol.specs.Calls.{lose, Answer, done, refused, said, has_message, message_at, without, left}
+use Rattle.protocol.specs.Calls.{lose, done, refused, said, has_message, without, left}
 use Rattle.cluster.specs.Meaning.{model}
 use Rattle.cluster.specs.Called.{Called}
 use Rattle.cluster.proofs.Links.{posts, untouched}

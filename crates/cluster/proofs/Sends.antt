@@ -6,12 +6,12 @@ use Rattle.protocol.specs.declared.Message.{Message}
 use Rattle.protocol.specs.ServerIds.{numbered, same}
 use Rattle.protocol.specs.State.{Server as State, Core, Machine, is_leader, joined, lost_of, posted}
 use Rattle.protocol.specs.AppendEntries.{append_request}
-use Rattle.protocol.specs.Calls.{send, Answer, refused, lost, said, send_call, send_answer}
+use Rattle.protocol.specs.Calls.{send, refused, lost, said, send_call, send_answer}
 use Rattle.node.specs.Meaning.{place}
 use Rattle.server.specs.Answers.{request_answer}
 use Rattle.cluster.specs.Meaning.{model}
 use Rattle.cluster.specs.Called.{Called}
-use Rattle.cluster.proofs.Threes.{numbered_some, numbered_none}
+use Rattle.cluster.proofs.Threes.{numbered_some}
 use Rattle.cluster.proofs.Links.{seen, posts, untouched, nobody}
 
 abbrev tests : {V : Type 0} → Bool → Bool → Bool → V → Result V ℕ

@@ -1,5 +1,5 @@
 -- A server at a glance, from what was read of it.
-use Rattle.std.proofs.Common.{◌≡◌, ℕ, length, sym, refl, ap, ◌∙◌}
+use Rattle.std.proofs.Common.{◌≡◌, ℕ, length, sym, ap, ◌∙◌}
 use Rattle.protocol.specs.State.{Server as State}
 use Rattle.cluster.specs.declared.reads.Status.{Status}
 use Rattle.cluster.specs.Statuses.{status_of}

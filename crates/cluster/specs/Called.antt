@@ -1,5 +1,5 @@
 -- What a call promises.
-use Rattle.std.specs.Prelude.{◌≡◌, ℕ, List, [], ◌∷◌, ◌++◌}
+use Rattle.std.specs.Prelude.{◌≡◌, List, [], ◌∷◌, ◌++◌}
 use Rattle.store.specs.Stores.{StoreState}
 use Rattle.store.specs.declared.Store.{Ghosts as StoreGhosts}
 use Rattle.machine.specs.declared.state_machine.StateMachine.{Ghosts as MachineGhosts}

@@ -1,5 +1,6 @@
 // A cluster of three servers over any store and any machine.
 #![tactic(auto)]
+
 mod calls;
 mod posting;
 mod reads;

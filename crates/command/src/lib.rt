@@ -1,5 +1,6 @@
 // The lines that the program table-run reads, as commands, and the lines that it prints.
 #![tactic(auto)]
+
 pub mod read;
 pub mod show;
 pub mod types;

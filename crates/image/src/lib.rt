@@ -1,5 +1,6 @@
 // The image of a store: the bytes of what is durable in it, written and read back.
 #![tactic(auto)]
+
 mod checks;
 pub mod contents;
 pub mod fault;

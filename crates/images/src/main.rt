@@ -1,5 +1,6 @@
 // A script of stores and their images, read into each of the three kinds of store.
 #![tactic(auto)]
+
 mod command;
 mod compare;
 

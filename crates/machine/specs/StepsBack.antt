@@ -1,11 +1,10 @@
 -- Replaced rows put back, one after the other.
-use Rattle.std.specs.Prelude.{◌≡◌, ℕ, zero, suc, ◌+◌, ◌<◌, ◌≤◌, true, false, cond, List, [], ◌∷◌, ◌++◌, reverse, length, take, drop, ℤ, Some, None, Option, slice_index_or, slice_set, refl}
-use Rattle.std.proofs.Common.{sym, ap, subst, ◌∙◌, inl, inr, arith, add-one}
+use Rattle.std.specs.Prelude.{◌≡◌, ℕ, suc, ◌+◌, ◌<◌, true, List, [], ◌∷◌, ◌++◌, reverse, length, take, drop, ℤ, Some, None, Option, slice_index_or, slice_set, refl}
+use Rattle.std.proofs.Common.{sym, ap, ◌∙◌, inl, inr, arith}
 use Rattle.std.proofs.lemmas.List.{set-set, set-get_or, reverse-append, length-reverse}
 use Rattle.std.proofs.lemmas.Bool.{cases_Bool, cond-true, cond-false}
 use Rattle.sheet.specs.declared.types.Edit.{Edit}
-use Rattle.sheet.specs.Cells.{row_in}
-use Rattle.sheet.specs.Rules.{is_row, place, row_at, with_row, of_kind, new_row, replaced_by, next}
+use Rattle.sheet.specs.Rules.{is_row, place, row_at, of_kind, new_row, replaced_by, next}
 use Rattle.machine.specs.declared.undo.Replaced.{Replaced}
 use Rattle.machine.specs.States.{newest}
 use Rattle.machine.specs.Sheets.{put_back, steps_back}

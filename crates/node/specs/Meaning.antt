@@ -1,5 +1,5 @@
 -- What a node means: one of the protocol's servers.
-use Rattle.std.specs.Prelude.{◌≡◌, ℕ, Bool, false, List, slice_index_or}
+use Rattle.std.specs.Prelude.{◌≡◌, ℕ, false, List, slice_index_or}
 use Rattle.store.specs.Stores.{StoreState}
 use Rattle.protocol.specs.declared.ServerId.{ServerId}
 use Rattle.protocol.specs.declared.ServerId.TheVariants.{One, Two, Three}

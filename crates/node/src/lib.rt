@@ -1,5 +1,6 @@
 // One server, its machine apart: what its store remembers and what it holds besides; its log, its terms and its elections.
 #![tactic(auto)]
+
 use protocol::Role;
 use store::Store;
 

@@ -2,7 +2,7 @@
 use Rattle.std.proofs.Common.{◌≡◌, ℕ, suc, ◌<◌, ◌≤◌, max, ◌⊎◌, length, refl, ◌∙◌, inl, inr, arith}
 use Rattle.std.proofs.lemmas.Bool.{cases_lt, cases_eq}
 use Rattle.protocol.specs.ServerIds.{ServerId}
-use Rattle.protocol.specs.State.{Log, at, Server, Core, change}
+use Rattle.protocol.specs.State.{Log, Server, Core, change}
 use Rattle.protocol.proofs.History.{put2, Pre, Hist, Grown, Sound, Settled, HistOk, RoleOk, AppliedOk, Ok, Tied, Holds, Inv}
 use Rattle.protocol.proofs.Shelf.{pre_less, put2_here, put2_there, put2_all}
 use Rattle.protocol.proofs.Frame.{grown_refl, sound_grown, settled_grown, Apart, change_inv}

@@ -2,7 +2,7 @@
 use Rattle.std.proofs.Common.{◌≡◌, ℕ, suc, ◌<◌, ◌≤◌, ◌⊎◌, length, Some, None, Option, sym, refl, ◌∙◌, inl, inr, arith}
 use Rattle.std.proofs.lemmas.Bool.{cases_lt, cases_eq}
 use Rattle.protocol.specs.ServerIds.{ServerId}
-use Rattle.protocol.specs.State.{Log, at, Core, change}
+use Rattle.protocol.specs.State.{Log, Core, change}
 use Rattle.protocol.specs.Elections.{wins}
 use Rattle.protocol.proofs.History.{put_t, put2, Pre, Hist, Grown, Sound, HistOk, CandidateOk, Ok, Holds, Inv}
 use Rattle.protocol.proofs.Shelf.{pre_refl, pre_none, ac, ad, bc, bd, meet, put_t_here, put_t_there, put_t_all, put2_here, put2_there, put2_all}

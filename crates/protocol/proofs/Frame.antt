@@ -4,7 +4,7 @@ use Rattle.std.specs.List.{AllByRecursion as All}
 use Rattle.std.proofs.ByRecursion.{All-weaker}
 use Rattle.record.specs.declared.entry.Entry.{Entry}
 use Rattle.protocol.specs.ServerIds.{ServerId, put}
-use Rattle.protocol.specs.State.{Log, at, term_at, tip, Role, follower, candidate, leader, Server, Body, VoteRequest, VoteReply, AppendRequest, AppendReply, Message, Core, change}
+use Rattle.protocol.specs.State.{Log, term_at, tip, Role, follower, candidate, leader, Server, Body, VoteRequest, VoteReply, AppendRequest, AppendReply, Message, Core, change}
 use Rattle.protocol.proofs.History.{Pre, Hist, Grown, Sound, Chosen, Settled, HistOk, RoleOk, Ok, Open, Tied, Holds, EntryOk, BodyOk, MessageOk, Inv, vote_of}
 use Rattle.protocol.proofs.Shelf.{pre_refl, pre_sym, pre_trans, pre_less, pre_term, cases_id, put_all}
 

@@ -2,7 +2,7 @@
 use Rattle.std.proofs.Common.{◌≡◌, ℕ, Bool, true, false, eqb, length, Some, sym, refl, ap, ◌∙◌, subst, inl, inr, arith}
 use Rattle.std.proofs.lemmas.Bool.{and_parts, ltb-true, eqb-true}
 use Rattle.protocol.specs.ServerIds.{ServerId, put}
-use Rattle.protocol.specs.State.{at, last_term, Role, follower, candidate, leader, Server, VoteRequest, VoteReply, Core, change, is_leader, is_candidate}
+use Rattle.protocol.specs.State.{last_term, Role, follower, candidate, leader, Server, VoteRequest, VoteReply, Core, change, is_leader, is_candidate}
 use Rattle.protocol.specs.Elections.{grants, may_vote, not_below, pair_of, wins, counts, two_of}
 use Rattle.protocol.proofs.History.{Hist, CandidateOk, RoleOk, BodyOk, Inv}
 use Rattle.protocol.proofs.Parts.{asked_in, counted_in, caught_in}

@@ -5,7 +5,7 @@ use Rattle.std.proofs.lemmas.List.Sums.{fold_more}
 use Rattle.std.proofs.lemmas.Bool.{cases_lt, cond-true, cond-false, lt-ltb, le-ltb, cases_Bool, both_ways}
 use Rattle.sheet.specs.declared.types.Edit.{Edit}
 use Rattle.record.specs.declared.entry.Entry.{Entry}
-use Rattle.machine.specs.States.{newest, applied, settled, undone_times}
+use Rattle.machine.specs.States.{newest, settled, undone_times}
 use Rattle.machine.proofs.Several.{times_is}
 use Rattle.protocol.specs.State.{blank, Log, at, Server, Machine}
 use Rattle.protocol.specs.Rules.{settled_times, moved}

@@ -1,5 +1,6 @@
 // The rules of the cluster, as definitions (specs/), the proof of what every run keeps (proofs/), and the plain types that rules and code share.
 #![tactic(auto)]
+
 use record::Entry;
 
 pub mod starred;

@@ -1,5 +1,5 @@
 -- What the bytes say of the record that wrote them.
-use Rattle.std.proofs.Common.{◌≡◌, ℕ, ◌+◌, ◌^◌, ◌<◌, List, ◌++◌, get_or, drop, ℤ, Some, None, Ok, Err, Option, Result, sym, ap, ◌∙◌, append_assoc, arith, w32, SFits, to_z, of_z}
+use Rattle.std.proofs.Common.{◌≡◌, ℕ, ◌^◌, ◌<◌, List, ◌++◌, get_or, drop, ℤ, Some, None, Ok, Err, Option, Result, sym, ap, ◌∙◌, append_assoc, arith, w32, SFits, to_z, of_z}
 use mir.Facts.{Fits-of_z}
 use Rattle.std.proofs.lemmas.Int.{to_z-of_z}
 use Rattle.record.specs.declared.entry.Entry.{Entry}

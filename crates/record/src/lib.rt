@@ -1,5 +1,6 @@
 // What a server's log holds, and its records in bytes.
 #![tactic(auto)]
+
 pub mod entry;
 pub mod fault;
 pub mod kinds;

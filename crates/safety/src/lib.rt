@@ -1,5 +1,6 @@
 // What every run of the cluster promises, and runs that show it is no empty promise.
 #![tactic(auto)]
+
 ghost use Rattle.protocol.specs.Promises.{Safe};
 ghost use Rattle.protocol.specs.Runs.{GoesOn};
 ghost use Rattle.safety.specs.Story.{Story};

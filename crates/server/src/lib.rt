@@ -1,5 +1,6 @@
 // One server with its machine: the calls that it answers, and the messages that it hears.
 #![tactic(auto)]
+
 use machine::StateMachine;
 use node::Node;
 use store::Store;

@@ -1,5 +1,5 @@
 -- Bounds of a product; the floor of a quotient.
-use Rattle.std.proofs.Common.{◌≡◌, ℕ, suc, ◌*◌, ◌/◌, ◌%◌, ◌<◌, ◌≤◌, ℤ, pos, negsuc, ◌*ℤ◌, ◌≤ℤ◌, add-mul, arith}
+use Rattle.std.proofs.Common.{suc, ◌/◌, ℤ, pos, negsuc, ◌*ℤ◌, ◌≤ℤ◌, add-mul, arith}
 use Rattle.std.proofs.lemmas.Int.{ints}
 use Rattle.std.proofs.lemmas.Nat.{mul-le, div-add-mod', mod_below}
 use Rattle.sheet.specs.Grading.{Floors}

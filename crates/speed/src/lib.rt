@@ -1,5 +1,6 @@
 // The rounds that the benchmark times: sixteen grade edits applied, one cell read, all sixteen taken back.
 #![tactic(auto)]
+
 ghost use Rattle.std.specs.Prelude.{◌≡◌, ◌<◌};
 
 use machine::rehearsal::{apply_all, undo_times};

@@ -1,5 +1,6 @@
 // What a server remembers: a term, a vote, and entries of which the first are durable.
 #![tactic(auto)]
+
 ghost use Rattle.std.specs.Prelude.{◌≡◌, length};
 ghost use Rattle.refusal.specs.Numbers.{told};
 ghost use Rattle.store.specs.Stores.{StoreState, Sound, Crashed};

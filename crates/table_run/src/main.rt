@@ -1,5 +1,6 @@
 // table-run: reads commands, makes their calls on a cluster, and prints a line for each.
 #![tactic(auto)]
+
 mod calls;
 
 use buffered_store::BufferedStore;

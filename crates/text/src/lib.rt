@@ -1,5 +1,6 @@
 // Numbers, edits and measures as text.
 #![tactic(auto)]
+
 ghost use Rattle.std.specs.Prelude.{◌≡◌, ℕ, ℤ, pos, ◌-ℤ◌, IfOk, string_bytes, MatchOption};
 ghost use Rattle.text.specs.Written.{Written, WrittenPlain, hex_value, in_millimetres};
 

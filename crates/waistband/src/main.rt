@@ -1,5 +1,6 @@
 // A script of edits, run over both machines.
 #![tactic(auto)]
+
 mod command;
 mod table;
 

@@ -1,6 +1,5 @@
 use Rattle.std.proofs.Common.{◌≡◌, ℕ, [], ◌∷◌, ◌++◌, take, sym, ap, ◌∙◌, subst, arith, rules}
 use Rattle.record.specs.Format.{BallotFits, EntryFits}
-use Rattle.image.specs.Images.{held}
 use Rattle.image.specs.Laws.{AllFit}
 use Rattle.image.proofs.Loads.{has_entry, taken_more, all_fit_more}
 use Rattle.image.proofs.stores.durable_contents.Goals as goal

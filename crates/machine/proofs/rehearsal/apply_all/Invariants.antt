@@ -1,4 +1,4 @@
-use Rattle.std.proofs.Common.{◌≡◌, ◌+◌, ◌≤◌, length, take}
+use Rattle.std.proofs.Common.{◌≡◌, ◌+◌, length, take}
 use Rattle.machine.specs.States.{applied_all}
 use Rattle.machine.proofs.rehearsal.apply_all.Given as goal
 

@@ -1,4 +1,4 @@
-use Rattle.std.proofs.Common.{◌≡◌, ℕ, List, ap, ◌∙◌}
+use Rattle.std.proofs.Common.{ℕ, ap, ◌∙◌}
 use Rattle.machine.specs.States.{applied_all, undone_times}
 use Rattle.machine.proofs.Several.{no_trace}
 use Rattle.machine.proofs.rehearsal.rehearse.Goals as goal

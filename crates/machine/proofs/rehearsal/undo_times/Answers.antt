@@ -1,4 +1,4 @@
-use Rattle.std.proofs.Common.{◌≡◌, ap, ◌∙◌, add-one}
+use Rattle.std.proofs.Common.{ap, ◌∙◌, add-one}
 use Rattle.machine.specs.States.{undone}
 use Rattle.machine.proofs.rehearsal.undo_times.Goals as goal
 

@@ -1,4 +1,4 @@
-use Rattle.std.proofs.Common.{◌≡◌, sym, ap, ◌∙◌, rules}
+use Rattle.std.proofs.Common.{sym, ap, ◌∙◌}
 use Rattle.refusal.specs.Numbers.{told}
 use Rattle.node.proofs.Entries.{held_some, held_none}
 use Rattle.node.proofs.Node.held.Goals as goal

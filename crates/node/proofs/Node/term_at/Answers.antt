@@ -1,4 +1,4 @@
-use Rattle.std.proofs.Common.{◌≡◌, sym, ◌∙◌}
+use Rattle.std.proofs.Common.{sym, ◌∙◌}
 use Rattle.node.proofs.Entries.{term_none}
 use Rattle.node.proofs.Node.term_at.Goals as goal
 

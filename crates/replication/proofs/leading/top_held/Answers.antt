@@ -1,4 +1,4 @@
-use Rattle.std.proofs.Common.{◌≡◌, sym, ◌∙◌}
+use Rattle.std.proofs.Common.{sym, ◌∙◌}
 use Rattle.node.specs.Meaning.{server_of}
 use Rattle.replication.proofs.Tops.{top_zero, top_here, top_below}
 use Rattle.replication.proofs.leading.top_held.Goals as goal

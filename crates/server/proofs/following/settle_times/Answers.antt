@@ -1,4 +1,4 @@
-use Rattle.std.proofs.Common.{◌≡◌, ap, ◌∙◌, add-one}
+use Rattle.std.proofs.Common.{ap, ◌∙◌, add-one}
 use Rattle.machine.specs.States.{settled}
 use Rattle.server.proofs.following.settle_times.Goals as goal
 

@@ -1,4 +1,4 @@
-use Rattle.std.proofs.Common.{◌≡◌, ℕ, ◌+◌, ◌<◌, false, length, get_or, ℤ, pos, arith, w32, SFits, rules}
+use Rattle.std.proofs.Common.{◌≡◌, ℕ, ◌+◌, ◌<◌, false, length, get_or, pos, arith, w32, SFits, rules}
 use Rattle.std.proofs.lemmas.Int.{to_z-of_z}
 use Rattle.sheet.specs.Rules.{in_range, graded, graded_cells, place}
 use Rattle.sheet.proofs.Ranges.{ranged_set, graded_more, graded_out, row_is, fitted_none, fitted_cells}

@@ -1,4 +1,4 @@
-use Rattle.std.proofs.Common.{ℤ, pos, negsuc, ◌*ℤ◌, ◌≤ℤ◌, arith, w32, SFits}
+use Rattle.std.proofs.Common.{pos, ◌*ℤ◌, arith, w32, SFits}
 use Rattle.std.proofs.lemmas.Int.{ints, to_z-of_z}
 use Rattle.sheet.proofs.Ints.{product_bounded}
 use Rattle.sheet.proofs.grading.spread.Goals as goal

@@ -1,6 +1,5 @@
-use Rattle.std.proofs.Common.{◌≡◌, vec_items, sym, refl, ap, ◌∙◌}
-use Rattle.protocol.specs.State.{change}
-use Rattle.refusal.specs.Numbers.{told, number_of}
+use Rattle.std.proofs.Common.{vec_items, sym, refl, ap, ◌∙◌}
+use Rattle.refusal.specs.Numbers.{told}
 use Rattle.protocol.specs.Calls.{campaign, campaign_call, campaign_answer, said, lost}
 use Rattle.server.specs.Turns.{kind_of, state_of, states_of}
 use Rattle.cluster.specs.Meaning.{model}

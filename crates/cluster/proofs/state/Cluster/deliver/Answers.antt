@@ -1,4 +1,4 @@
-use Rattle.std.proofs.Common.{◌≡◌, vec_items, sym, refl, ap, ◌∙◌}
+use Rattle.std.proofs.Common.{vec_items, sym, refl, ◌∙◌}
 use Rattle.server.specs.Turns.{kind_of, state_of, states_of}
 use Rattle.cluster.proofs.Deliveries.{deliver_none, deliver_down, deliver_done}
 use Rattle.cluster.proofs.state.Cluster.deliver.Goals as goal

@@ -1,4 +1,4 @@
-use Rattle.std.proofs.Common.{◌≡◌, vec_items, sym, refl, ap, ◌∙◌}
+use Rattle.std.proofs.Common.{vec_items, sym, refl, ap, ◌∙◌}
 use Rattle.protocol.specs.State.{change}
 use Rattle.protocol.specs.Rules.{firms}
 use Rattle.protocol.specs.Calls.{firm, said, done, firm_answer}

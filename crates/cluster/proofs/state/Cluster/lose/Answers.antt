@@ -1,4 +1,4 @@
-use Rattle.std.proofs.Common.{◌≡◌, vec_items, sym, ◌∙◌}
+use Rattle.std.proofs.Common.{vec_items, sym, ◌∙◌}
 use Rattle.server.specs.Turns.{kind_of, state_of, states_of}
 use Rattle.cluster.proofs.Networks.{lose_none, lose_done}
 use Rattle.cluster.proofs.state.Cluster.lose.Goals as goal

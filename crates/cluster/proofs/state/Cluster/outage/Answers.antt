@@ -1,4 +1,4 @@
-use Rattle.std.proofs.Common.{◌≡◌, true, vec_items, sym, refl, ap, ◌∙◌}
+use Rattle.std.proofs.Common.{true, vec_items, sym, refl, ap, ◌∙◌}
 use Rattle.protocol.specs.State.{change}
 use Rattle.protocol.specs.Rules.{fails}
 use Rattle.protocol.specs.Calls.{outage, said, keeps, outage_answer}

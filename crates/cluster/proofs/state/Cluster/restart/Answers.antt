@@ -1,4 +1,4 @@
-use Rattle.std.proofs.Common.{◌≡◌, vec_items, sym, refl, ap, ◌∙◌}
+use Rattle.std.proofs.Common.{vec_items, sym, refl, ap, ◌∙◌}
 use Rattle.protocol.specs.State.{change}
 use Rattle.protocol.specs.Rules.{restarts}
 use Rattle.protocol.specs.Calls.{restart, said, done, restart_answer}

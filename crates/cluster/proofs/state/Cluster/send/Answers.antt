@@ -1,4 +1,4 @@
-use Rattle.std.proofs.Common.{◌≡◌, vec_items, sym, ap, ◌∙◌}
+use Rattle.std.proofs.Common.{vec_items, sym, ap, ◌∙◌}
 use Rattle.refusal.specs.Numbers.{told}
 use Rattle.server.specs.Turns.{kind_of, state_of, states_of}
 use Rattle.cluster.proofs.Sends.{send_nobody, send_nowhere, send_refused, send_done}

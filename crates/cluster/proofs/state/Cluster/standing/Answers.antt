@@ -1,4 +1,4 @@
-use Rattle.std.proofs.Common.{◌≡◌, vec_items, sym, refl, ap, ◌∙◌}
+use Rattle.std.proofs.Common.{vec_items, sym, refl, ap, ◌∙◌}
 use Rattle.protocol.specs.Calls.{standing, said, word, standing_answer}
 use Rattle.server.specs.Turns.{kind_of, state_of, states_of}
 use Rattle.cluster.specs.Meaning.{model}

@@ -1,4 +1,4 @@
-use Rattle.std.proofs.Common.{◌≡◌, true, ◌&&◌, get_or, ℤ, pos, negsuc, ◌≤ℤ◌, None, sym, ◌∙◌, arith, w32, SFits}
+use Rattle.std.proofs.Common.{◌≡◌, true, ◌&&◌, get_or, pos, negsuc, ◌≤ℤ◌, None, sym, ◌∙◌, w32, SFits}
 use Rattle.std.proofs.lemmas.Int.{to_z-of_z}
 use Rattle.std.proofs.lemmas.Bool.{and_from, cond-true}
 use Rattle.sheet.specs.Cells.{row_in}

@@ -1,4 +1,4 @@
-use Rattle.std.proofs.Common.{◌≡◌, ◌<◌, ◌≤◌, [], ◌∷◌, length, vec_items, ap, ◌∙◌, arith}
+use Rattle.std.proofs.Common.{◌<◌, ◌≤◌, [], ◌∷◌, length, vec_items, ap, ◌∙◌, arith}
 use Rattle.sheet.specs.Cells.{cells_of}
 use Rattle.sheet.specs.Rules.{opening, next}
 use Rattle.machine.specs.Sheets.{replay_states, steps_on}

@@ -1,8 +1,8 @@
-use Rattle.std.proofs.Common.{◌≡◌, ℕ, ◌<◌, ◌≤◌, List, ◌∷◌, ◌++◌, reverse, length, vec_items, sym, ap, ◌∙◌, arith}
+use Rattle.std.proofs.Common.{◌≡◌, ℕ, ◌<◌, ◌≤◌, List, ◌∷◌, reverse, length, vec_items, sym, ap, ◌∙◌, arith}
 use Rattle.sheet.specs.Cells.{cells_of}
 use Rattle.sheet.specs.Rules.{opening, next}
 use Rattle.machine.specs.declared.undo.Replaced.{Replaced}
-use Rattle.machine.specs.Sheets.{undo_states, steps_back, put_back}
+use Rattle.machine.specs.Sheets.{undo_states, steps_back}
 use Rattle.machine.specs.Counts.{apply_told, apply_refused, applied_is, applied_same}
 use Rattle.machine.specs.StepsBack.{back_count, back_more, back_newest}
 use Rattle.machine.proofs.undo.moves.UndoMachineStateMachine.apply.Goals as goal

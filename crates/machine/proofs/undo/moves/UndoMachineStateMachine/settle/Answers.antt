@@ -1,4 +1,4 @@
-use Rattle.std.proofs.Common.{◌≡◌, ℕ, ◌<◌, List, reverse, length, vec_items, vec_len, ap, ◌∙◌, arith, rules}
+use Rattle.std.proofs.Common.{◌≡◌, ◌<◌, List, reverse, length, vec_items, vec_len, ap, ◌∙◌, arith, rules}
 use Rattle.sheet.specs.Cells.{cells_of}
 use Rattle.machine.specs.declared.undo.Replaced.{Replaced}
 use Rattle.machine.specs.Sheets.{undo_states, steps_back}
