@@ -5,7 +5,8 @@ mod calls;
 mod posting;
 mod reads;
 pub mod state;
+mod tickets;
 
 pub use reads::Status;
-pub use server::Proposed;
+pub use server::{Outcome, Proposed, Ticket, Unclosed};
 pub use state::Cluster;

@@ -8,6 +8,10 @@ use store::Store;
 pub mod calls;
 pub mod following;
 pub mod steps;
+pub mod ticketing;
+pub mod tickets;
+
+pub use tickets::{Outcome, Ticket, Unclosed};
 
 #[derive(Drop)]
 pub struct Server<S: Store + Drop, M: StateMachine + Drop> {
