@@ -1,3 +1,4 @@
 pub mod Splits
 pub mod Lines
 pub mod Sole
+pub mod Puts

@@ -19,7 +19,7 @@ fn letter(role: Role) -> &'static str
 }
 
 // The word of a standing.
-fn word(standing: Standing) -> &'static str
+pub fn word(standing: Standing) -> &'static str
     ensures { result.now ≡ standing_shown standing }
 {
     match standing {

@@ -1,5 +1,6 @@
 // A command, and what a printed line tells.
 use protocol::{Role, Standing};
+use refusal::Refusal;
 use sheet::Edit;
 
 // A call of the cluster, with its numbers.
@@ -16,6 +17,25 @@ pub enum Command {
     Restart { server: u32 },
     Standing { server: u32, number: u32, term: u32 },
     Look { server: u32, row: u32, size: u32 },
+}
+
+// What a line is answered with.
+#[derive(Clone, Copy)]
+pub enum Answer {
+    // The line is no command.
+    NoCommand,
+    Refused(Refusal),
+    Done,
+    // How many messages were lost.
+    Lost(u32),
+    // A ticket's number and term.
+    Ticket { number: u32, term: u32 },
+    // How many entries an outage kept.
+    Kept(u32),
+    // What the server can tell of a ticket.
+    Told(Standing),
+    // Tenths of a millimetre.
+    Cell(u16),
 }
 
 // What a line tells of a server.

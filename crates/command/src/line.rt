@@ -1,0 +1,144 @@
+// The line that answers a command, written into memory that is reserved beforehand.
+ghost use Rattle.std.specs.Prelude.{◌≡◌, ◌≤◌, [], ◌∷◌, length, IfOk, vec_capacity, decimal};
+ghost use Rattle.command.specs.Shown.{role_shown, state_shown, server_shown, ending_shown, shown};
+ghost use Rattle.command.specs.Writing.{Room, Put};
+
+use crate::show::word;
+use crate::types::{Ending, ServerLine};
+use protocol::Role;
+use std::alloc::{AllocError, Global};
+
+// No line is longer.
+const LINE_MAX: usize = 256;
+
+// A line of output, in memory that is reserved at opening.
+#[derive(Drop)]
+pub struct Line {
+    bytes: Vec<u8>,
+    ghost room: { 256 ≤ vec_capacity bytes },
+}
+
+impl Line {
+    // Reserves the memory of a line, which is empty at first.
+    pub fn open(heap: Global) -> Result<Line, AllocError>
+        ensures { IfOk result (λ l. l.bytes.items ≡ []) }
+    {
+        let bytes = Vec::with_capacity(heap, LINE_MAX)?;
+        Ok(Line { bytes })
+    }
+
+    // The bytes that the line holds.
+    pub fn bytes(&self) -> &[u8]
+        ensures { result.now ≡ self.now.bytes.items }
+    {
+        self.bytes.as_slice()
+    }
+
+    // Writes the line that answers a command, in place of what the buffer held.
+    pub fn write(
+        &mut self,
+        answer: u8,
+        one: ServerLine,
+        two: ServerLine,
+        three: ServerLine,
+        ending: Ending,
+    )
+        ensures { self.new.bytes.items ≡ shown answer one two three ending }
+    {
+        let out = &mut self.bytes;
+        out.truncate(0);
+        put_number(out, u32::from(answer));
+        out.push_reserved(b' ');
+        put_server(out, &one);
+        out.push_reserved(b' ');
+        put_server(out, &two);
+        out.push_reserved(b' ');
+        put_server(out, &three);
+        put_ending(out, ending);
+    }
+}
+
+// The letter of a role.
+fn role_byte(role: Role) -> u8
+    ensures { role_shown role ≡ result ∷ [] }
+{
+    match role {
+        Role::Follower => b'f',
+        Role::Candidate => b'c',
+        Role::Leader => b'l',
+    }
+}
+
+// The letter of a server's role, or d where it is down.
+fn state_byte(server: &ServerLine) -> u8
+    ensures { state_shown server.now ≡ result ∷ [] }
+{
+    if server.up {
+        role_byte(server.role)
+    } else {
+        b'd'
+    }
+}
+
+// Puts the digits of a number.
+fn put_number(out: &mut Vec<u8>, n: u32)
+    requires { Room 10 out.old }
+    ensures { Put 10 out.old (decimal n) out.new }
+{
+    if n < 10 {
+        out.push_reserved(b'0' + n as u8);
+    } else {
+        put_number(out, n / 10);
+        out.push_reserved(b'0' + (n % 10) as u8);
+    }
+}
+
+// Puts a mark, and the digits of a number.
+fn put_after(out: &mut Vec<u8>, mark: u8, n: u32)
+    requires { Room 11 out.old }
+    ensures { Put 11 out.old (mark ∷ decimal n) out.new }
+{
+    out.push_reserved(mark);
+    put_number(out, n);
+}
+
+// Puts a text.
+fn put_text(out: &mut Vec<u8>, text: &str)
+    requires { Room (length text.now) out.old }
+    ensures { Put (length text.now) out.old text.now out.new }
+{
+    let bytes = text.as_bytes();
+    for byte in bytes {
+        out.push_reserved(*byte);
+    }
+}
+
+// Puts a server at a glance.
+fn put_server(out: &mut Vec<u8>, server: &ServerLine)
+    requires { Room 56 out.old }
+    ensures { Put 56 out.old (server_shown server.now) out.new }
+{
+    put_number(out, server.term);
+    out.push_reserved(b'/');
+    out.push_reserved(state_byte(server));
+    put_after(out, b'/', server.length);
+    put_after(out, b'/', server.durable);
+    put_after(out, b'/', server.commit);
+    put_after(out, b'/', server.applied);
+}
+
+// Puts a space and what the call found, if it tells something.
+fn put_ending(out: &mut Vec<u8>, ending: Ending)
+    requires { Room 11 out.old }
+    ensures { Put 11 out.old (ending_shown ending) out.new }
+{
+    match ending {
+        Ending::Nothing => {}
+        Ending::Count(count) => put_after(out, b' ', count),
+        Ending::Word(standing) => {
+            out.push_reserved(b' ');
+            put_text(out, word(standing));
+        }
+        Ending::Cell(tenths) => put_after(out, b' ', u32::from(tenths)),
+    }
+}
