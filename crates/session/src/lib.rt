@@ -1,0 +1,10 @@
+// A cluster that is run by commands: by one, by a list of them, or by lines of text.
+#![tactic(auto)]
+
+mod answering;
+mod making;
+mod running;
+
+pub use answering::{answer_line, server_line};
+pub use making::make;
+pub use running::run_commands;

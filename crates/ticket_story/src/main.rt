@@ -1,0 +1,105 @@
+// Tickets held through a takeover: one is kept, one is gone, one is written off.
+#![tactic(auto)]
+
+mod held;
+
+use buffered_store::BufferedStore;
+use cluster::{Cluster, Outcome};
+use held::{Closing, Held};
+use machine::UndoMachine;
+use sheet::Edit;
+use std::alloc::{AllocError, Global};
+use std::io;
+use store::RecordStore;
+
+type Servers = Cluster<BufferedStore<RecordStore>, UndoMachine>;
+
+fn parts(heap: Global) -> Result<(BufferedStore<RecordStore>, UndoMachine), AllocError> {
+    let store = BufferedStore::open(heap, RecordStore::open(heap)?)?;
+    Ok((store, UndoMachine::open(heap)?))
+}
+
+// An edit that sets the cell at row 1 and size 5.
+fn sets(a: i32) -> Edit {
+    Edit {
+        kind: 1,
+        row: 1,
+        size: 5,
+        a,
+        q: 0,
+    }
+}
+
+// An edit that grades row 1 from size 5, by a/2 a size.
+fn grades(a: i32) -> Edit {
+    Edit {
+        kind: 2,
+        row: 1,
+        size: 5,
+        a,
+        q: 2,
+    }
+}
+
+// A server gets its second vote from another, whose request has the given position.
+fn elect(cluster: &mut Servers, server: u32, position: u32) {
+    let _ = cluster.campaign(server);
+    let _ = cluster.deliver(position, false);
+    let _ = cluster.deliver(2, false);
+}
+
+// A leader makes its log durable, sends the next entry to another server, and hears the reply.
+fn replicate(cluster: &mut Servers, leader: u32, other: u32) {
+    let _ = cluster.firm(leader);
+    let _ = cluster.send(leader, other);
+    let _ = cluster.deliver(1, false);
+    let _ = cluster.deliver(1, false);
+}
+
+// Server 1 leads, and commits the first of three edits; server 2 takes over, and commits another in place of the second.
+fn story(cluster: &mut Servers) -> [Closing; 7] {
+    elect(cluster, 1, 1);
+    let _ = cluster.lose(1);
+    let base = Held::of(cluster.propose_ticket(1, sets(7200)));
+    replicate(cluster, 1, 2);
+    let waistband = Held::of(cluster.propose_ticket(1, grades(415)));
+    let seam = Held::of(cluster.propose_ticket(1, sets(7240)));
+    let (base, first) = base.close(cluster, 1);
+    let (waistband, second) = waistband.close(cluster, 1);
+    elect(cluster, 2, 2);
+    let _ = cluster.lose(1);
+    let other = Held::of(cluster.propose_ticket(2, grades(425)));
+    replicate(cluster, 2, 3);
+    replicate(cluster, 2, 3);
+    replicate(cluster, 2, 3);
+    let (waistband, third) = waistband.close(cluster, 2);
+    let (seam, fourth) = seam.close(cluster, 2);
+    let (seam, fifth) = seam.close(cluster, 4);
+    let _ = cluster.outage(3, 0);
+    let (seam, sixth) = seam.close(cluster, 3);
+    let (other, seventh) = other.close(cluster, 2);
+    base.write_off();
+    waistband.write_off();
+    seam.write_off();
+    other.write_off();
+    [first, second, third, fourth, fifth, sixth, seventh]
+}
+
+fn main(rt: HostRuntime) -> io::Result<()> {
+    let heap = rt.alloc();
+    let mut cluster = Cluster::open(heap, parts(heap)?, parts(heap)?, parts(heap)?)?;
+    for closing in story(&mut cluster) {
+        let number = closing.number;
+        let term = closing.term;
+        let server = closing.server;
+        match closing.answer {
+            Ok(Outcome::Kept) => println!(rt; "close {server} {number} {term}: kept")?,
+            Ok(Outcome::Gone) => println!(rt; "close {server} {number} {term}: gone")?,
+            Err(refusal) => {
+                let why = refusal.number();
+                println!(rt; "close {server} {number} {term}: refused {why}")?;
+            }
+        }
+    }
+    Ok(())
+}
