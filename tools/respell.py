@@ -30,11 +30,9 @@ OWN = {
     "kind-in": "kind_in_record",
     "all-in-range": "all_in_range_by",
     "in-range": "in_range_positive",
-    "ballot-fits": "ballot_fits",
 }
 # A lemma that the kit's script has spelled like a definition of another crate, in the files where it stands.
 FIRST = [("has_room", "room_is_left", ["crates/image/proofs/Loads.antt", "crates/image/proofs/stores/load/Answers.antt"])]
-LEAVE = {"Or", "And"}
 
 
 def snake(name):
@@ -61,9 +59,11 @@ def replaced(path, table):
 
 
 def main():
+    with open("crates/store/specs/Stores.antt", encoding="utf-8") as f:
+        clashes = "hasRoom" in f.read()  # not yet turned
     for old, new, files in FIRST:
         for p in files:
-            if os.path.exists("crates/store/specs/Stores.antt") and "hasRoom" in open("crates/store/specs/Stores.antt", encoding="utf-8").read():
+            if clashes:
                 replaced(p, {old: new})
     table = {n: OWN.get(n, snake(n)) for n in declared() if (re.search("[a-z0-9][A-Z]", n) or "-" in n) and not n[0].isupper()}
     kit = os.path.dirname(subprocess.run(["rt", "doc"], capture_output=True, text=True, check=True).stdout.strip())

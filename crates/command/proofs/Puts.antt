@@ -1,9 +1,12 @@
 -- Bytes that are put one after another.
-use Rattle.std.proofs.Common.{◌≡◌, ℕ, ◌+◌, ◌/◌, ◌^◌, ◌<◌, ◌≤◌, List, [], ◌∷◌, ◌++◌, length, vec_items, vec_len, vec_capacity, decimal, Vec, ap, ◌∙◌, append_assoc, arith, lit<, lit≤, length-append}
+use Rattle.std.proofs.Common.{◌≡◌, ℕ, ◌+◌, ◌/◌, ◌^◌, ◌<◌, ◌≤◌, List, [], ◌∷◌, ◌++◌, length, vec_items, vec_len, vec_capacity, decimal, codes, cond, true, false, Vec, ap, ◌∙◌, append_assoc, arith, lit<, lit≤, length-append}
 use Rattle.std.proofs.lemmas.Fmt.{decimal_step, length-decimal-le}
+use Rattle.protocol.specs.declared.Role.{Role}
+use Rattle.protocol.specs.declared.Role.TheVariants.{Follower, Candidate, Leader}
 use Rattle.protocol.specs.declared.Standing.{Standing}
 use Rattle.protocol.specs.declared.Standing.TheVariants.{Kept, Gone, Open, Unknown}
-use Rattle.command.specs.Shown.{standing_shown}
+use Rattle.command.specs.declared.types.ServerLine.{ServerLine}
+use Rattle.command.specs.Shown.{role_shown, standing_shown, state_shown}
 use Rattle.command.specs.Writing.{Put}
 
 module _ {Z : Type 0} where
@@ -51,3 +54,12 @@ standing_few Kept = lit≤ tt
 standing_few Gone = lit≤ tt
 standing_few Open = lit≤ tt
 standing_few Unknown = lit≤ tt
+
+-- a role is one letter, and so is a server's state
+role_few : (r : Role) → length (role_shown r) ≤ 1
+role_few Follower = lit≤ tt
+role_few Candidate = lit≤ tt
+role_few Leader = lit≤ tt
+
+pub state_few : (s : ServerLine) → length (state_shown s) ≤ 1
+state_few s = elim s.up as (λ u. length (cond u (role_shown s.role) (codes "d")) ≤ 1) [ true ↦ role_few s.role | false ↦ lit≤ tt ]

@@ -1,11 +1,10 @@
 // The line that answers a command, written into memory that is reserved beforehand.
 ghost use Rattle.std.specs.Prelude.{◌≡◌, ◌≤◌, [], ◌∷◌, length, IfOk, vec_capacity, decimal};
-ghost use Rattle.command.specs.Shown.{role_shown, state_shown, server_shown, ending_shown, shown};
+ghost use Rattle.command.specs.Shown.{server_shown, ending_shown, shown};
 ghost use Rattle.command.specs.Writing.{Room, Put};
 
-use crate::show::word;
+use crate::show::{state, word};
 use crate::types::{Ending, ServerLine};
-use protocol::Role;
 use std::alloc::{AllocError, Global};
 
 // No line is longer.
@@ -58,28 +57,6 @@ impl Line {
     }
 }
 
-// The letter of a role.
-fn role_byte(role: Role) -> u8
-    ensures { role_shown role ≡ result ∷ [] }
-{
-    match role {
-        Role::Follower => b'f',
-        Role::Candidate => b'c',
-        Role::Leader => b'l',
-    }
-}
-
-// The letter of a server's role, or d where it is down.
-fn state_byte(server: &ServerLine) -> u8
-    ensures { state_shown server.now ≡ result ∷ [] }
-{
-    if server.up {
-        role_byte(server.role)
-    } else {
-        b'd'
-    }
-}
-
 // Puts the digits of a number.
 fn put_number(out: &mut Vec<u8>, n: u32)
     requires { Room 10 out.old }
@@ -120,7 +97,7 @@ fn put_server(out: &mut Vec<u8>, server: &ServerLine)
 {
     put_number(out, server.term);
     out.push_reserved(b'/');
-    out.push_reserved(state_byte(server));
+    put_text(out, state(server));
     put_after(out, b'/', server.length);
     put_after(out, b'/', server.durable);
     put_after(out, b'/', server.commit);

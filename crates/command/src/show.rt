@@ -31,7 +31,7 @@ pub fn word(standing: Standing) -> &'static str
 }
 
 // The letter of a server's role, or d where it is down.
-fn state(server: &ServerLine) -> &'static str
+pub(crate) fn state(server: &ServerLine) -> &'static str
     ensures { result.now ≡ state_shown server.now }
 {
     if server.up { letter(server.role) } else { "d" }

@@ -92,16 +92,16 @@ fn rounds<M: StateMachine>(machine: &mut M, count: u32) -> u64 {
     sum
 }
 
-#[unsafe(no_mangle)]
-pub extern "C" fn undo_rounds(heap: Global, count: u32) -> u64 {
+// The rounds over a machine that keeps replaced rows; the largest number where there is no memory.
+pub fn undo_rounds(heap: Global, count: u32) -> u64 {
     match UndoMachine::open(heap) {
         Ok(mut machine) => rounds(&mut machine, count),
         Err(_) => u64::MAX,
     }
 }
 
-#[unsafe(no_mangle)]
-pub extern "C" fn replay_rounds(heap: Global, count: u32) -> u64 {
+// The same over a machine that keeps the open edits.
+pub fn replay_rounds(heap: Global, count: u32) -> u64 {
     match ReplayMachine::open(heap) {
         Ok(mut machine) => rounds(&mut machine, count),
         Err(_) => u64::MAX,
