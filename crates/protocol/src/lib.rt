@@ -6,7 +6,7 @@ use record::Entry;
 pub mod starred;
 
 // One of the three servers.
-#[derive(Clone, Copy)]
+#[derive(Clone, Copy, Debug, PartialEq, Eq)]
 pub enum ServerId {
     One,
     Two,
@@ -14,7 +14,7 @@ pub enum ServerId {
 }
 
 // What a server is in its term.
-#[derive(Clone, Copy)]
+#[derive(Clone, Copy, Debug, PartialEq, Eq)]
 pub enum Role {
     Follower,
     Candidate,
@@ -22,7 +22,7 @@ pub enum Role {
 }
 
 // What a message says.
-#[derive(Clone, Copy)]
+#[derive(Clone, Copy, Debug, PartialEq, Eq)]
 pub enum Body {
     // A candidate's last term and length, as one pair.
     VoteRequest((u32, u32)),
@@ -39,7 +39,7 @@ pub enum Body {
 }
 
 // A message between two servers, with the sender's term.
-#[derive(Clone, Copy)]
+#[derive(Clone, Copy, Debug, PartialEq, Eq)]
 pub struct Message {
     pub from: ServerId,
     pub to: ServerId,
@@ -48,7 +48,7 @@ pub struct Message {
 }
 
 // What a server can tell of a ticket.
-#[derive(Clone, Copy)]
+#[derive(Clone, Copy, Debug, PartialEq, Eq)]
 pub enum Standing {
     Kept,
     Gone,

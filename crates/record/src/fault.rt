@@ -4,13 +4,13 @@ ghost use Rattle.record.specs.Faults.{number_of, offset_of, reader_of};
 ghost use Rattle.record.specs.declared.fault.RecordFault.TheVariants.{Field as InField};
 
 // Fewer bytes than the head of the record at `offset` needs, or than its length needs.
-#[derive(Clone, Copy)]
+#[derive(Clone, Copy, Debug, PartialEq, Eq)]
 pub struct FieldFault {
     pub offset: usize,
 }
 
 // What is wrong with the record at `offset`.
-#[derive(Clone, Copy)]
+#[derive(Clone, Copy, Debug, PartialEq, Eq)]
 pub enum RecordFault {
     Field(FieldFault),
     WrongLength { offset: usize },
@@ -18,7 +18,7 @@ pub enum RecordFault {
 }
 
 // Who found a fault.
-#[derive(Clone, Copy)]
+#[derive(Clone, Copy, Debug, PartialEq, Eq)]
 pub enum Reader {
     Field,
     Record,

@@ -2,13 +2,13 @@
 use crate::entry::Entry;
 
 // A server's term, and the server that it voted for in that term: 0 for none.
-#[derive(Clone, Copy)]
+#[derive(Clone, Copy, Debug, Default, PartialEq, Eq)]
 pub struct Ballot {
     pub term: u32,
     pub vote: u16,
 }
 
-#[derive(Clone, Copy)]
+#[derive(Clone, Copy, Debug, PartialEq, Eq)]
 pub enum Record {
     // Kind 1: opens an image.
     Opening(Ballot),

@@ -5,7 +5,7 @@ ghost use Rattle.std.specs.Prelude.{ℕ, ◌≤◌, slice_index};
 pub const CELL_MAX: u16 = 30_000;
 
 // An edit: a kind, and four words of which each kind names some.
-#[derive(Clone, Copy)]
+#[derive(Clone, Copy, Debug, Default, PartialEq, Eq)]
 pub struct Edit {
     pub kind: u16,
     pub row: i32,
@@ -15,7 +15,7 @@ pub struct Edit {
 }
 
 // One measure in twelve sizes, in tenths of a millimetre.
-#[derive(Clone, Copy)]
+#[derive(Clone, Copy, Debug, PartialEq, Eq)]
 pub struct Row {
     pub cells: [u16; 12],
     ghost ranged: { (k : ℕ) → slice_index cells k ≤ 30000 },
