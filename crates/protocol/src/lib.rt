@@ -1,16 +1,45 @@
 // The rules of the cluster, as definitions (specs/), the proof of what every run keeps (proofs/), and the plain types that rules and code share.
 #![tactic(auto)]
 
+ghost use Rattle.std.specs.Prelude.{◌≡◌, Ok, Err};
+ghost use Rattle.refusal.specs.declared.Refusal.TheVariants.{NoSuchServer};
+ghost use Rattle.protocol.specs.ServerIds.{number_of, numbered};
+
 use record::Entry;
+use refusal::Refusal;
 
 pub mod starred;
 
-// One of the three servers.
+// One of the three servers, by its number.
 #[derive(Clone, Copy, Debug, PartialEq, Eq)]
 pub enum ServerId {
-    One,
-    Two,
-    Three,
+    One = 1,
+    Two = 2,
+    Three = 3,
+}
+
+impl From<ServerId> for u16 {
+    ghost from_gives = { λ server number. number ≡ number_of server };
+
+    fn from(server: ServerId) -> u16 {
+        server as u16
+    }
+}
+
+// The server with a number, if there is one.
+impl TryFrom<u32> for ServerId {
+    type Error = Refusal;
+
+    ghost try_from_gives = { λ number server. server ≡ numbered number Ok (Err NoSuchServer) };
+
+    fn try_from(number: u32) -> Result<ServerId, Refusal> {
+        match number {
+            1 => Ok(ServerId::One),
+            2 => Ok(ServerId::Two),
+            3 => Ok(ServerId::Three),
+            _ => Err(Refusal::NoSuchServer),
+        }
+    }
 }
 
 // What a server is in its term.
@@ -54,4 +83,16 @@ pub enum Standing {
     Gone,
     Open,
     Unknown,
+}
+
+// A server at a glance.
+#[derive(Clone, Copy, Debug, PartialEq, Eq)]
+pub struct Status {
+    pub term: u32,
+    pub up: bool,
+    pub role: Role,
+    pub length: u32,
+    pub durable: u32,
+    pub commit: u32,
+    pub applied: u32,
 }
