@@ -7,54 +7,39 @@ ghost use Rattle.refusal.specs.Numbers.{number_of};
 #[derive(Clone, Copy, Debug, PartialEq, Eq)]
 pub enum Refusal {
     // No server has this number.
-    NoSuchServer,
+    NoSuchServer = 1,
     // The server is down.
-    ServerDown,
+    ServerDown = 2,
     // The server is a leader.
-    IsLeader,
+    IsLeader = 3,
     // The server's term is at its limit of 1,000,000.
-    TermLimit,
+    TermLimit = 4,
     // The network has no message at this position.
-    NoSuchMessage,
+    NoSuchMessage = 5,
     // The server is not a leader.
-    NotLeader,
+    NotLeader = 6,
     // The log holds 64 entries.
-    LogFull,
+    LogFull = 7,
     // Sender and receiver are the same.
-    SameServer,
+    SameServer = 8,
     // No entry may be applied.
-    NothingToApply,
+    NothingToApply = 9,
     // Sixteen edits are open.
-    TooManyOpen,
+    TooManyOpen = 10,
     // The server is up.
-    AlreadyUp,
+    AlreadyUp = 11,
     // The ticket's standing is neither kept nor gone.
-    Undecided,
+    Undecided = 12,
     // The sheet has no such cell.
-    NoSuchCell,
+    NoSuchCell = 13,
     // The move cannot be made, or there is no such thing to tell.
-    OutOfBounds,
+    OutOfBounds = 15,
 }
 
 impl Refusal {
     pub fn number(self) -> u8
         ensures { result ≡ number_of self }
     {
-        match self {
-            Refusal::NoSuchServer => 1,
-            Refusal::ServerDown => 2,
-            Refusal::IsLeader => 3,
-            Refusal::TermLimit => 4,
-            Refusal::NoSuchMessage => 5,
-            Refusal::NotLeader => 6,
-            Refusal::LogFull => 7,
-            Refusal::SameServer => 8,
-            Refusal::NothingToApply => 9,
-            Refusal::TooManyOpen => 10,
-            Refusal::AlreadyUp => 11,
-            Refusal::Undecided => 12,
-            Refusal::NoSuchCell => 13,
-            Refusal::OutOfBounds => 15,
-        }
+        self as u8
     }
 }
