@@ -36,8 +36,8 @@ high_apart three e = apart23 (sym e)
 heard_next : {g : Hist} {w : Core} → Inv g w → (from to : ServerId) → (from ≡ to → ⊥) → (T : ℕ) (k : Body) → BodyOk g from to T k → Next g (heard_in w from to T k)
 heard_next inv from to n T (VoteRequest pair) o = asked_next inv from to n T pair o
 heard_next inv from to n T (VoteReply ok) o = counted_next inv from to n T ok o
-heard_next inv from to n T (AppendRequest p t k e) o = appended_next inv from to n T p t k e o
-heard_next inv from to n T (AppendReply ok m) o = replied_next inv from to n T ok m o
+heard_next inv from to n T (AppendRequest a) o = appended_next inv from to n T a o
+heard_next inv from to n T (AppendReply m) o = replied_next inv from to n T m o
 
 deliver_next : {g : Hist} {w : Core} → Inv g w → (l : Message) → MessageOk g l → Next g (heard_in (caught_in w l.to l.term) l.from l.to l.term l.body)
 deliver_next inv l o = next_then (caught_next inv l.to l.term)

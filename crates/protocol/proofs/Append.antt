@@ -4,7 +4,7 @@ use Rattle.std.proofs.lemmas.Bool.{cases_lt, cases_order, and_parts, ltb-true, l
 use Rattle.std.proofs.lemmas.List.{length_push, get_or_push, length-take-le}
 use Rattle.record.specs.declared.entry.Entry.{Entry}
 use Rattle.protocol.specs.ServerIds.{ServerId}
-use Rattle.protocol.specs.State.{Log, at, term_at, tip, Server, AppendRequest, Core, blank, is_leader}
+use Rattle.protocol.specs.State.{Log, at, term_at, tip, Server, AppendEntries, AppendRequest, Core, blank, is_leader}
 use Rattle.protocol.specs.AppendEntries.{holds, commits, reaches}
 use Rattle.protocol.proofs.History.{Pre, Hist, Sound, Settled, AppliedOk, Tied, Holds, EntryOk, BodyOk, Inv}
 use Rattle.protocol.proofs.Parts.{kept_in, took_in, appended_in}
@@ -136,21 +136,21 @@ module _ {g : Hist} {w : Core} (inv : Inv g w) (from to : ServerId) (n : from �
       (λ c. cut_next p e pp en (ltb-false p _ c) (inr (λ z. eqb-false _ _ b (z ∙ sym (ap (λ (y : Entry). y.term) en.1)))) (min s₆.applied p) (omega arith))))
       (λ a. append_next p e pp en (ltb-false p _ a)))
 
-pub appended_next : {g : Hist} {w : Core} → Inv g w → (from to : ServerId) → (from ≡ to → ⊥) → (T p t k : ℕ) (e : Option Entry)
-    → BodyOk g from to T (AppendRequest p t k e) → Next g (appended_in w from to T p t k e)
-appended_next {g} {w} inv from to n T p t k e o =
+pub appended_next : {g : Hist} {w : Core} → Inv g w → (from to : ServerId) → (from ≡ to → ⊥) → (T : ℕ) (a : AppendEntries)
+    → BodyOk g from to T (AppendRequest a) → Next g (appended_in w from to T a)
+appended_next {g} {w} inv from to n T a o =
     split _ _ _
-    (λ a.
-    let z : T ≡ (w.server to).term = eqb-true T _ a in
+    (λ same.
+    let z : T ≡ (w.server to).term = eqb-true T _ same in
     split (is_leader (w.server to).role) _ _
     (λ _. stay inv)
-    (λ _. split (reaches (w.server to).log p t) _ _
+    (λ _. split (reaches (w.server to).log a.previous a.previous_term) _ _
     (λ b.
-    let r = and_parts (leb p (length (w.server to).log)) (eqb (tip (w.server to).log p) t) b in
-    let o' : BodyOk g from to (w.server to).term (AppendRequest p t k e) = subst (λ U. BodyOk g from to U (AppendRequest p t k e)) z o in
-    let pp : Pre p (w.server to).log (g.log (w.server to).term) =
-    agree_tip _ _ (w.server to).log (g.log (w.server to).term) (inv.each to).log (inv.hist.logs (w.server to).term) p
-    (leb-true p _ r.0) o'.1 (eqb-true _ _ r.1 ∙ o'.2) in
-    subst (λ U. Next g (took_in w from to U p k e)) (sym z) (took_next inv from to n o'.0 k o'.4 p e pp o'.3))
+    let r = and_parts (leb a.previous (length (w.server to).log)) (eqb (tip (w.server to).log a.previous) a.previous_term) b in
+    let o' : BodyOk g from to (w.server to).term (AppendRequest a) = subst (λ U. BodyOk g from to U (AppendRequest a)) z o in
+    let pp : Pre a.previous (w.server to).log (g.log (w.server to).term) =
+    agree_tip _ _ (w.server to).log (g.log (w.server to).term) (inv.each to).log (inv.hist.logs (w.server to).term) a.previous
+    (leb-true a.previous _ r.0) o'.1 (eqb-true _ _ r.1 ∙ o'.2) in
+    subst (λ U. Next g (took_in w from to U a.previous a.commit a.entry)) (sym z) (took_next inv from to n o'.0 a.commit o'.4 a.previous a.entry pp o'.3))
     (λ _. stay (posted_inv (follows_inv inv to) _ (record { apart = λ y. n (sym y); body = tt })))))
     (λ _. stay (posted_inv inv _ (record { apart = λ y. n (sym y); body = tt })))

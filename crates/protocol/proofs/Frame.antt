@@ -81,15 +81,15 @@ body_grown : {g h : Hist} → HistOk g → Grown g h → (s r : ServerId) (T : �
 body_grown H G s r T (VoteRequest pair) k = let e = G.stood s T k.0 in (G.voted s T s k.0, rw e k.1)
 body_grown H G s r T (VoteReply false) k = tt
 body_grown H G s r T (VoteReply true) k = G.voted s T r k
-body_grown H G s r T (AppendRequest p t c e) k = (
+body_grown H G s r T (AppendRequest a) k = (
   G.leads T s k.0,
   omega (arith, (G.log T).right, k.1),
-  k.2 ∙ tip_pre p (log_grown G T p k.1),
-  entry_grown G T p e k.3,
-  λ z. let s = k.4 z in settled_pre (omega arith) (pre_sym (log_grown G T c s.pre.left)) (settled_grown H G s),
+  k.2 ∙ tip_pre a.previous (log_grown G T a.previous k.1),
+  entry_grown G T a.previous a.entry k.3,
+  λ z. let s = k.4 z in settled_pre (omega arith) (pre_sym (log_grown G T a.commit s.pre.left)) (settled_grown H G s),
 )
-body_grown H G s r T (AppendReply false m) k = tt
-body_grown H G s r T (AppendReply true m) k = (G.leads T r k.0, omega (arith, G.ack s T, k.1))
+body_grown H G s r T (AppendReply None) k = tt
+body_grown H G s r T (AppendReply (Some m)) k = (G.leads T r k.0, omega (arith, G.ack s T, k.1))
 
 pub message_grown : {g h : Hist} → HistOk g → Grown g h → (l : Message) → MessageOk g l → MessageOk h l
 message_grown H G l k = record { apart = k.apart; body = body_grown H G l.from l.to l.term l.body k.body }

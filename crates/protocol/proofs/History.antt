@@ -137,10 +137,11 @@ abbrev pub BodyOk : Hist → ServerId → ServerId → ℕ → Body → Type 0
 BodyOk g s r T (VoteRequest pair) = (g.voted s T ≡ Some s) × (pair ≡ pair_of (g.stood s T))
 BodyOk g s r T (VoteReply false) = Unit {0}
 BodyOk g s r T (VoteReply true) = g.voted s T ≡ Some r
-BodyOk g s r T (AppendRequest p t k e) =
-    (g.leads T ≡ Some s) × (p ≤ length (g.log T)) × (t ≡ tip (g.log T) p) × EntryOk g T p e × (0 < k → Settled g T k (g.log T))
-BodyOk g s r T (AppendReply false m) = Unit {0}
-BodyOk g s r T (AppendReply true m) = (g.leads T ≡ Some r) × (m ≤ g.ack s T)
+BodyOk g s r T (AppendRequest a) =
+    (g.leads T ≡ Some s) × (a.previous ≤ length (g.log T)) × (a.previous_term ≡ tip (g.log T) a.previous) × EntryOk g T a.previous a.entry
+    × (0 < a.commit → Settled g T a.commit (g.log T))
+BodyOk g s r T (AppendReply None) = Unit {0}
+BodyOk g s r T (AppendReply (Some m)) = (g.leads T ≡ Some r) × (m ≤ g.ack s T)
 
 pub record MessageOk (g : Hist) (l : Message) : Type 0 where
   pub apart : l.from ≡ l.to → ⊥

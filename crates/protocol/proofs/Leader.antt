@@ -1,9 +1,9 @@
 -- What a leader does: count replies, sync, raise its commit, send.
-use Rattle.std.proofs.Common.{◌≡◌, ℕ, zero, suc, ◌-◌, ◌<◌, ◌≤◌, max, Bool, true, false, cond, ◌&&◌, eqb, ltb, leb, ◌⊎◌, length, Some, None, sym, refl, ap, ◌∙◌, subst, inl, inr, arith}
+use Rattle.std.proofs.Common.{◌≡◌, ℕ, zero, suc, ◌-◌, ◌<◌, ◌≤◌, max, true, false, ◌&&◌, eqb, ltb, leb, ◌⊎◌, length, Some, None, Option, sym, refl, ap, ◌∙◌, subst, inl, inr, arith}
 use Rattle.std.proofs.lemmas.Bool.{cases_lt, both_ways, cond_both, and_parts, ltb-true, eqb-true, leb-true}
 use Rattle.protocol.specs.ServerIds.{ServerId}
 use Rattle.protocol.specs.State.{Log, at, term_at, Role, follower, candidate, leader, Server, AppendReply, Core, change, is_leader}
-use Rattle.protocol.specs.AppendEntries.{known, two_hold, top, raises, got_yes, got_no, append_request}
+use Rattle.protocol.specs.AppendEntries.{known, two_hold, top, raises, got_reply, append_request}
 use Rattle.protocol.specs.Rules.{syncs}
 use Rattle.protocol.proofs.History.{Pre, Hist, Grown, Settled, LeaderOk, RoleOk, EntryOk, BodyOk, MessageOk, Inv}
 use Rattle.protocol.proofs.Parts.{replied_in}
@@ -79,29 +79,26 @@ module _ {g : Hist} {w : Core} (inv : Inv g w) (j : ServerId) (role : (w.server 
 raised : {h : Hist} (w : Core) (j : ServerId) (a : Server) → a.role ≡ leader → Inv h (change w j a) → Inv h (change w j (raises j a))
 raised w j a e i = again w j a (raises j) (raises_inv i j (ap (λ (s : Server). s.role) (put_here w.server j a) ∙ e))
 
-pub replied_next : {g : Hist} {w : Core} → Inv g w → (from to : ServerId) → (from ≡ to → ⊥) → (T : ℕ) (ok : Bool) (m : ℕ)
-    → BodyOk g from to T (AppendReply ok m) → Next g (replied_in w from to T ok m)
-replied_next {g} {w} inv from to n T ok m o = split _ _ _
+pub replied_next : {g : Hist} {w : Core} → Inv g w → (from to : ServerId) → (from ≡ to → ⊥) → (T : ℕ) (m : Option ℕ)
+    → BodyOk g from to T (AppendReply m) → Next g (replied_in w from to T m)
+replied_next {g} {w} inv from to n T m o = split _ _ _
     (λ e.
     let s = w.server to in
     let p = and_parts (eqb T s.term) (is_leader s.role) e in
     let z : T ≡ s.term = eqb-true T s.term p.0 in
     let r : s.role ≡ leader = is_leader_true s.role p.1 in
     let l = lead_ok inv to r in
-    go s r l (subst (λ U. BodyOk g from to U (AppendReply ok m)) z o) ok refl)
+    go s r l m (subst (λ U. BodyOk g from to U (AppendReply m)) z o))
     (λ e. stay inv)
   where
-    go : (s : Server) → (w.server to).role ≡ leader → LeaderOk g to (w.server to) → BodyOk g from to (w.server to).term (AppendReply ok m)
-        → (b : Bool) → ok ≡ b → Next g (cond b
-        (change w to (raises to (got_yes from m (w.server to))))
-        (change w to (raises to (got_no from (w.server to)))))
-    go s r l k true e =
-        let k' : BodyOk g from to (w.server to).term (AppendReply true m) = subst (λ b. BodyOk g from to (w.server to).term (AppendReply b m)) e k in
+    go : (s : Server) → (w.server to).role ≡ leader → LeaderOk g to (w.server to) → (m : Option ℕ) → BodyOk g from to (w.server to).term (AppendReply m)
+        → Next g (change w to (raises to (got_reply from m (w.server to))))
+    go s r l (Some m) k =
         let a = inv.hist.acks from (w.server to).term in
         let b : g.log (w.server to).term ≡ (w.server to).log = sym l.log in
         let c : g.ack from (w.server to).term ≤ length (w.server to).log = rw b at a in
-        stay (raised w to _ r (notes_inv inv to r l from _ _ (omega (arith, l.match from n, k'.1)) (omega arith) (omega (arith, l.match from n, (l.next from).1, k'.1))))
-    go s r l k false e =
+        stay (raised w to _ r (notes_inv inv to r l from _ _ (omega (arith, l.match from n, k.1)) (omega arith) (omega (arith, l.match from n, (l.next from).1, k.1))))
+    go s r l None k =
         stay (raised w to _ r (notes_inv inv to r l from _ _ (l.match from n) (omega arith) (omega (arith, (l.next from).0, (l.next from).1))))
 
 module _ {g : Hist} {w : Core} (inv : Inv g w) (j : ServerId) where

@@ -5,7 +5,7 @@ use Rattle.record.specs.declared.entry.Entry.{Entry}
 use Rattle.protocol.specs.ServerIds.{ServerId, put, same, numbered}
 use Rattle.protocol.specs.State.{Log, term_at, tip, Server, Body, VoteRequest, VoteReply, AppendRequest, AppendReply, Message, Core, change, posted, is_leader}
 use Rattle.protocol.specs.Elections.{grants, counting, may_campaign, taken, stands, votes_for, counts, two_of, wins}
-use Rattle.protocol.specs.AppendEntries.{follows, holds, commits, reaches, raises, got_yes, got_no}
+use Rattle.protocol.specs.AppendEntries.{follows, holds, commits, reaches, raises, got_reply, got_yes, got_no}
 use Rattle.protocol.specs.Rules.{openly, few_open, may_propose, gains, syncs, stops, starts, applies, may_apply}
 use Rattle.protocol.specs.Calls.{without, has_message, message_at, Call, campaign, deliver, lose, propose, firm, send, apply, outage, restart, standing, close, look, campaign_call, propose_call, firm_call, send_call, apply_call, outage_call, restart_call, core_after}
 use Rattle.protocol.proofs.History.{Pre, Hist, Inv}
@@ -101,21 +101,24 @@ module _ {g : Hist} {w : Core} (inv : Inv g w) where
       (λ c. cut_falls from to T p k e h (ltb-false p _ c))))
       (λ a. append_falls from to T p k e))
 
+  replied_falls : (from to : ServerId) (m : Option ℕ) → AllFall w (change w to (raises to (got_reply from m (w.server to))))
+  replied_falls from to None = alike to (raises to (got_no from (w.server to))) refl refl refl (omega arith)
+  replied_falls from to (Some m) = alike to (raises to (got_yes from m (w.server to))) refl refl refl (omega arith)
+
   heard_falls : (from to : ServerId) (T : ℕ) (k : Body) → AllFall w (heard_in w from to T k)
   heard_falls from to T (VoteRequest pair) = fall_split (grants (w.server to) from T pair) _ _ (λ _. fall_post _ (alike to (votes_for from (w.server to)) refl refl refl (omega arith))) (λ _. fall_post _ all_same)
   heard_falls from to T (VoteReply ok) = fall_split (counting (w.server to) T ok) _ _
       (λ _. fall_split (two_of (put (w.server to).voters from true)) _ _ (λ _. alike to (wins (counts from (w.server to))) refl refl refl (omega arith)) (λ _. alike to (counts from (w.server to)) refl refl refl (omega arith)))
       (λ _. all_same)
-  heard_falls from to T (AppendRequest p t k e) = fall_split (eqb T (w.server to).term) _ _
+  heard_falls from to T (AppendRequest a) = fall_split (eqb T (w.server to).term) _ _
       (λ _. fall_split (is_leader (w.server to).role) _ _
       (λ _. all_same)
-      (λ _. fall_split (reaches (w.server to).log p t) _ _
-      (λ b. took_falls from to T p k e (leb-true p _ (and_parts (leb p (length (w.server to).log)) (eqb (tip (w.server to).log p) t) b).0))
+      (λ _. fall_split (reaches (w.server to).log a.previous a.previous_term) _ _
+      (λ b. took_falls from to T a.previous a.commit a.entry
+      (leb-true a.previous _ (and_parts (leb a.previous (length (w.server to).log)) (eqb (tip (w.server to).log a.previous) a.previous_term) b).0))
       (λ _. fall_post _ (alike to (follows (w.server to)) refl refl refl (omega arith)))))
       (λ _. fall_post _ all_same)
-  heard_falls from to T (AppendReply ok m) = fall_split (eqb T (w.server to).term && is_leader (w.server to).role) _ _
-      (λ _. fall_split ok _ _ (λ _. alike to (raises to (got_yes from m (w.server to))) refl refl refl (omega arith)) (λ _. alike to (raises to (got_no from (w.server to))) refl refl refl (omega arith)))
-      (λ _. all_same)
+  heard_falls from to T (AppendReply m) = fall_split (eqb T (w.server to).term && is_leader (w.server to).role) _ _ (λ _. replied_falls from to m) (λ _. all_same)
 
   caught_falls : (j : ServerId) (T : ℕ) → AllFall w (caught_in w j T)
   caught_falls j T = fall_split _ _ _ (λ _. one_falls j (taken T (w.server j)) (taken_falls (w.server j) T (inv.each j).machine.within)) (λ _. all_same)

@@ -5,7 +5,7 @@ use Rattle.record.specs.declared.entry.Entry.{Entry}
 use Rattle.protocol.specs.ServerIds.{ServerId, put, low, high}
 use Rattle.protocol.specs.State.{term_at, Server, is_leader, Body, VoteRequest, VoteReply, AppendRequest, AppendReply, Message, Core, joined, joined_some, change, with, posted}
 use Rattle.protocol.specs.Elections.{stands, may_campaign, vote_request, taken, caught_up, grants, counting, two_of}
-use Rattle.protocol.specs.AppendEntries.{reaches, took, took_to, yes_to, no_to, got_yes, got_no, raises}
+use Rattle.protocol.specs.AppendEntries.{reaches, took, took_to, yes_to, no_to, got_reply, raises}
 use Rattle.protocol.specs.Rules.{hears, replies}
 use Rattle.protocol.specs.Calls.{without, left, campaign_call}
 use Rattle.protocol.proofs.Parts.{took_in, heard_in, caught_in}
@@ -60,26 +60,20 @@ took_is w from to T p k (Some e) =
     (pulled w to F (eqb (term_at s.log p) e.term) {o = Some (suc p)} refl (pulled w to F (ltb p s.commit) {o = None} {q = Some (suc p)} refl refl))
     refl)
 
-got_is : (w : Core) (j : ServerId) (b ok : Bool) (x y : Server)
-    → cond b (cond ok (change w j (raises j x)) (change w j (raises j y))) w ≡ change w j (cond b (raises j (cond ok x y)) (w.server j))
-got_is w j true true x y = refl
-got_is w j true false x y = refl
-got_is w j false ok x y = idle w j
-
 -- a message at its receiver changes that server and sends at most one message
 heard_is : (w : Core) (from to : ServerId) (T : ℕ) (k : Body)
     → heard_in w from to T k ≡ with w to (hears (w.server to) from to T k) (joined_some w.network (replies (w.server to) from to T k))
 heard_is w from to T (VoteRequest pair) = answered w to (grants (w.server to) from T pair) _ _ _
 heard_is w from to T (VoteReply ok) = noted w to (counting (w.server to) T ok) (two_of (put (w.server to).voters from true)) _ _
-heard_is w from to T (AppendRequest p t k e) =
+heard_is w from to T (AppendRequest a) =
     let s = w.server to in
     let F : Option Message → List Message = joined_some w.network in
     let no = no_to from to s in
     pulled w to F (eqb T s.term) {q = Some no}
     (pulled w to F (is_leader s.role) {o = None} (idle w to)
-    (pulled w to F (reaches s.log p t) {o = yes_to from to T (took_to p e s)} {q = Some no} (took_is w from to T p k e) refl))
+    (pulled w to F (reaches s.log a.previous a.previous_term) {o = yes_to from to T (took_to a.previous a.entry s)} {q = Some no} (took_is w from to T a.previous a.commit a.entry) refl))
     (told_no w to no)
-heard_is w from to T (AppendReply ok m) = got_is w to (eqb T (w.server to).term && is_leader (w.server to).role) ok (got_yes from m (w.server to)) (got_no from (w.server to))
+heard_is w from to T (AppendReply m) = sym (change_if w to (eqb T (w.server to).term && is_leader (w.server to).role) (raises to (got_reply from m (w.server to))))
 
 left_is : (w : Core) (keep : Bool) (p : ℕ) → cond keep w (record { server = w.server; network = without p w.network }) ≡ record { server = w.server; network = left keep p w.network }
 left_is w true p = refl

@@ -1,8 +1,8 @@
 -- Replication: a leader's append request, its receiver with all cases in order, the receiver of the reply, and the leader's commit.
-use Rattle.std.specs.Prelude.{ℕ, zero, suc, ◌-◌, min, max, Bool, true, false, cond, ◌&&◌, leb, [], ◌∷◌, ◌++◌, length, take, Some, None, Option, ◌==◌, nat_le, nat_lt}
+use Rattle.std.specs.Prelude.{ℕ, zero, suc, ◌-◌, min, max, Bool, cond, ◌&&◌, leb, [], ◌∷◌, ◌++◌, length, take, Some, None, Option, ◌==◌, nat_le, nat_lt}
 use Rattle.record.specs.declared.entry.Entry.{Entry}
 use Rattle.protocol.specs.ServerIds.{ServerId, put}
-use Rattle.protocol.specs.State.{Log, at, term_at, tip, follower, Server, is_leader, AppendRequest, AppendReply, Message, set_log, set_role, set_peers, set_commit, set_applied}
+use Rattle.protocol.specs.State.{Log, at, term_at, tip, follower, Server, is_leader, AppendEntries, AppendRequest, AppendReply, Message, set_log, set_role, set_peers, set_commit, set_applied}
 use Rattle.protocol.specs.Elections.{two_of}
 
 -- The append request that a leader sends to r: the entry before next, its commit, and entry next if it holds it.
@@ -11,8 +11,12 @@ append_request j s r = record {
   from = j;
   to = r;
   term = s.term;
-  body = AppendRequest (s.next r - 1) (tip s.log (s.next r - 1)) s.commit
-      (cond (nat_lt (s.next r - 1) (length s.log)) (Some (at s.log (s.next r - 1))) None);
+  body = AppendRequest (record {
+    previous = s.next r - 1;
+    previous_term = tip s.log (s.next r - 1);
+    commit = s.commit;
+    entry = cond (nat_lt (s.next r - 1) (length s.log)) (Some (at s.log (s.next r - 1))) None;
+  });
 }
 
 -- The receiver, in the request's term and no leader, is a follower from here on.
@@ -69,18 +73,20 @@ took_to p (Some e) s = accepted_to p e s
 
 abbrev pub yes_to : ServerId → ServerId → ℕ → Option ℕ → Option Message
 yes_to from to T None = None
-yes_to from to T (Some m) = Some (record { from = to; to = from; term = T; body = AppendReply true m })
+yes_to from to T (Some m) = Some (record { from = to; to = from; term = T; body = AppendReply (Some m) })
 
 abbrev pub no_to : ServerId → ServerId → Server → Message
-no_to from to s = record { from = to; to = from; term = s.term; body = AppendReply false 0 }
+no_to from to s = record { from = to; to = from; term = s.term; body = AppendReply None }
 
 -- A lower term gets a no; a leader of the term drops it unanswered; a candidate steps down; a previous entry that is missing or of another term gets a no.
-abbrev pub hears_append : ℕ → ℕ → ℕ → ℕ → Option Entry → Server → Server
-hears_append T p t k e s = cond (T == s.term) (cond (is_leader s.role) s (cond (reaches s.log p t) (took p k e s) (follows s))) s
+abbrev pub hears_append : ℕ → AppendEntries → Server → Server
+hears_append T a s =
+    cond (T == s.term) (cond (is_leader s.role) s (cond (reaches s.log a.previous a.previous_term) (took a.previous a.commit a.entry s) (follows s))) s
 
-abbrev pub append_reply : ServerId → ServerId → ℕ → ℕ → ℕ → Option Entry → Server → Option Message
-append_reply from to T p t e s =
-    cond (T == s.term) (cond (is_leader s.role) None (cond (reaches s.log p t) (yes_to from to T (took_to p e s)) (Some (no_to from to s)))) (Some (no_to from to s))
+abbrev pub append_reply : ServerId → ServerId → ℕ → AppendEntries → Server → Option Message
+append_reply from to T a s =
+    cond (T == s.term) (cond (is_leader s.role) None (cond (reaches s.log a.previous a.previous_term)
+    (yes_to from to T (took_to a.previous a.entry s)) (Some (no_to from to s)))) (Some (no_to from to s))
 
 -- A reply counts at a leader of that term. A yes raises match to m and next to at least match + 1; a no lowers next by one, to no less than match + 1.
 abbrev pub notes : ServerId → ℕ → ℕ → Server → Server
@@ -92,8 +98,9 @@ got_yes r m s = notes r (max (s.next r) (suc (max (s.match r) m))) (max (s.match
 abbrev pub got_no : ServerId → Server → Server
 got_no r s = notes r (max (suc (s.match r)) (s.next r - 1)) (s.match r) s
 
-abbrev pub got_reply : ServerId → Bool → ℕ → Server → Server
-got_reply from ok m s = cond ok (got_yes from m s) (got_no from s)
+abbrev pub got_reply : ServerId → Option ℕ → Server → Server
+got_reply from None s = got_no from s
+got_reply from (Some m) s = got_yes from m s
 
 -- How far k is known to hold the log of the leader j: j itself as far as its durable count, another as far as match.
 abbrev pub known : ServerId → Server → ServerId → ℕ
@@ -110,5 +117,5 @@ top j s (suc i) = cond (term_at s.log i == s.term && two_hold j s (suc i)) (suc 
 abbrev pub raises : ServerId → Server → Server
 raises j s = commits (max s.commit (top j s (length s.log))) s
 
-abbrev pub hears_reply : ServerId → ServerId → ℕ → Bool → ℕ → Server → Server
-hears_reply from to T ok m s = cond (T == s.term && is_leader s.role) (raises to (got_reply from ok m s)) s
+abbrev pub hears_reply : ServerId → ServerId → ℕ → Option ℕ → Server → Server
+hears_reply from to T m s = cond (T == s.term && is_leader s.role) (raises to (got_reply from m s)) s

@@ -14,14 +14,14 @@ use Rattle.protocol.specs.AppendEntries.{hears_append, append_reply, hears_reply
 abbrev pub hears : Server → ServerId → ServerId → ℕ → Body → Server
 hears s from to T (VoteRequest pair) = hears_vote_request s from T pair
 hears s from to T (VoteReply ok) = hears_vote_reply s from T ok
-hears s from to T (AppendRequest p t k e) = hears_append T p t k e s
-hears s from to T (AppendReply ok m) = hears_reply from to T ok m s
+hears s from to T (AppendRequest a) = hears_append T a s
+hears s from to T (AppendReply m) = hears_reply from to T m s
 
 abbrev pub replies : Server → ServerId → ServerId → ℕ → Body → Option Message
 replies s from to T (VoteRequest pair) = Some (vote_reply s from to T pair)
 replies s from to T (VoteReply ok) = None
-replies s from to T (AppendRequest p t k e) = append_reply from to T p t e s
-replies s from to T (AppendReply ok m) = None
+replies s from to T (AppendRequest a) = append_reply from to T a s
+replies s from to T (AppendReply m) = None
 
 -- An entry more, volatile. A leader with fewer than 64 may take it.
 abbrev pub gains : Entry → Server → Server

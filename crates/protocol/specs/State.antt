@@ -5,6 +5,7 @@ use Rattle.record.specs.declared.entry.Entry.{Entry}
 use Rattle.protocol.specs.ServerIds.{ServerId, put}
 pub use Rattle.protocol.specs.declared.Role.{Role}
 pub use Rattle.protocol.specs.declared.Role.TheVariants.{Follower as follower, Candidate as candidate, Leader as leader}
+pub use Rattle.protocol.specs.declared.AppendEntries.{AppendEntries}
 pub use Rattle.protocol.specs.declared.Body.{Body}
 pub use Rattle.protocol.specs.declared.Body.TheVariants.{VoteRequest, VoteReply, AppendRequest, AppendReply}
 pub use Rattle.protocol.specs.declared.Message.{Message}

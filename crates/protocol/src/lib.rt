@@ -50,21 +50,24 @@ pub enum Role {
     Leader,
 }
 
+// What an append request carries: the number and term of the entry before, the sender's commit, and at most one entry.
+#[derive(Clone, Copy, Debug, PartialEq, Eq)]
+pub struct AppendEntries {
+    pub previous: u32,
+    pub previous_term: u32,
+    pub commit: u32,
+    pub entry: Option<Entry>,
+}
+
 // What a message says.
 #[derive(Clone, Copy, Debug, PartialEq, Eq)]
 pub enum Body {
     // A candidate's last term and length, as one pair.
     VoteRequest((u32, u32)),
     VoteReply(bool),
-    // The number and term of the entry before, the sender's commit, and at most one entry.
-    AppendRequest {
-        previous: u32,
-        previous_term: u32,
-        commit: u32,
-        entry: Option<Entry>,
-    },
-    // With a yes, through which entry the logs agree.
-    AppendReply(bool, u16),
+    AppendRequest(AppendEntries),
+    // For a yes, through which entry the logs agree.
+    AppendReply(Option<u16>),
 }
 
 // A message between two servers, with the sender's term.

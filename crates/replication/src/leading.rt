@@ -7,7 +7,7 @@ ghost use Rattle.node.specs.Meaning.{server_of, Goes};
 
 use node::Node;
 use node::ids::{is_same, leads, place_of};
-use protocol::{Body, Message, ServerId};
+use protocol::{AppendEntries, Body, Message, ServerId};
 use store::Store;
 
 // The append request to a receiver: the entry before next, the commit, and entry next if it is held.
@@ -19,12 +19,12 @@ pub fn append_request<S: Store + Drop>(node: &Node<S>, me: ServerId, receiver: S
         from: me,
         to: receiver,
         term: node.store.term(),
-        body: Body::AppendRequest {
+        body: Body::AppendRequest(AppendEntries {
             previous,
             previous_term: node.tip(previous),
             commit: node.commit,
             entry: node.held(previous),
-        },
+        }),
     }
 }
 
@@ -52,13 +52,12 @@ fn got_no<S: Store + Drop>(node: &mut Node<S>, server: ServerId)
     note(node, server, lower.max(matched as u32 + 1), matched);
 }
 
-fn got_reply<S: Store + Drop>(node: &mut Node<S>, from: ServerId, ok: bool, agreed: u16)
-    ensures { Goes S.Store.meaning node.old (got_reply from ok agreed) node.new }
+fn got_reply<S: Store + Drop>(node: &mut Node<S>, from: ServerId, agreed: Option<u16>)
+    ensures { Goes S.Store.meaning node.old (got_reply from agreed) node.new }
 {
-    if ok {
-        got_yes(node, from, agreed);
-    } else {
-        got_no(node, from);
+    match agreed {
+        Some(agreed) => got_yes(node, from, agreed),
+        None => got_no(node, from),
     }
 }
 
@@ -111,11 +110,11 @@ pub fn raise<S: Store + Drop>(node: &mut Node<S>, me: ServerId)
 }
 
 // A reply counts at a leader of its term.
-pub fn hear_reply<S: Store + Drop>(node: &mut Node<S>, message: Message, ok: bool, agreed: u16)
-    ensures { Goes S.Store.meaning node.old (hears_reply message.from message.to message.term ok agreed) node.new }
+pub fn hear_reply<S: Store + Drop>(node: &mut Node<S>, message: Message, agreed: Option<u16>)
+    ensures { Goes S.Store.meaning node.old (hears_reply message.from message.to message.term agreed) node.new }
 {
     if message.term == node.store.term() && leads(node.role) {
-        got_reply(node, message.from, ok, agreed);
+        got_reply(node, message.from, agreed);
         raise(node, message.to);
     }
 }

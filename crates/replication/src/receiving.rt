@@ -1,11 +1,11 @@
 // The receiver of an append request, with all its cases in order.
 ghost use Rattle.std.specs.Prelude.{◌≡◌, suc, ◌<◌, ◌≤◌, min, [], ◌∷◌, ◌++◌, length, take};
-ghost use Rattle.protocol.specs.AppendEntries.{follows, reaches, accepts, accepted, accepted_to, took as tookIt, took_to, no_to, hears_append, append_reply};
+ghost use Rattle.protocol.specs.AppendEntries.{follows, reaches, accepts, accepted, accepted_to, took as took_it, took_to, no_to, hears_append, append_reply};
 ghost use Rattle.node.specs.Meaning.{server_of, Goes};
 
 use node::Node;
 use node::ids::leads;
-use protocol::{Body, Message, Role, ServerId};
+use protocol::{AppendEntries, Body, Message, Role, ServerId};
 use record::Entry;
 use store::Store;
 
@@ -89,22 +89,17 @@ fn accept<S: Store + Drop>(
 }
 
 // At most one entry; with none, only syncing and commit are left.
-fn take_in<S: Store + Drop>(
-    node: &mut Node<S>,
-    previous: u32,
-    commit: u32,
-    entry: Option<Entry>,
-) -> Option<u16>
-    requires { previous ≤ length (S.Store.meaning node.old.store).entries }
-    ensures after { Goes S.Store.meaning node.old (tookIt previous commit entry) node.new }
-    ensures says { result ≡ took_to previous entry (server_of S.Store.meaning node.old) }
+fn take_in<S: Store + Drop>(node: &mut Node<S>, append: AppendEntries) -> Option<u16>
+    requires { append.previous ≤ length (S.Store.meaning node.old.store).entries }
+    ensures after { Goes S.Store.meaning node.old (took_it append.previous append.commit append.entry) node.new }
+    ensures says { result ≡ took_to append.previous append.entry (server_of S.Store.meaning node.old) }
 {
-    match entry {
+    match append.entry {
         None => {
-            hold(node, previous, commit);
-            Some(previous as u16)
+            hold(node, append.previous, append.commit);
+            Some(append.previous as u16)
         }
-        Some(entry) => accept(node, previous, commit, entry),
+        Some(entry) => accept(node, append.previous, append.commit, entry),
     }
 }
 
@@ -115,7 +110,7 @@ fn no_to<S: Store + Drop>(node: &Node<S>, from: ServerId, to: ServerId) -> Messa
         from: to,
         to: from,
         term: node.store.term(),
-        body: Body::AppendReply(false, 0),
+        body: Body::AppendReply(None),
     }
 }
 
@@ -123,13 +118,10 @@ fn no_to<S: Store + Drop>(node: &Node<S>, from: ServerId, to: ServerId) -> Messa
 pub fn hear_append<S: Store + Drop>(
     node: &mut Node<S>,
     message: Message,
-    previous: u32,
-    previous_term: u32,
-    commit: u32,
-    entry: Option<Entry>,
+    append: AppendEntries,
 ) -> Option<Message>
-    ensures after { Goes S.Store.meaning node.old (hears_append message.term previous previous_term commit entry) node.new }
-    ensures says { result ≡ append_reply message.from message.to message.term previous previous_term entry (server_of S.Store.meaning node.old) }
+    ensures after { Goes S.Store.meaning node.old (hears_append message.term append) node.new }
+    ensures says { result ≡ append_reply message.from message.to message.term append (server_of S.Store.meaning node.old) }
 {
     if message.term != node.store.term() {
         return Some(no_to(node, message.from, message.to));
@@ -137,17 +129,15 @@ pub fn hear_append<S: Store + Drop>(
     if leads(node.role) {
         return None;
     }
-    if !reaches_to(node, previous, previous_term) {
+    if !reaches_to(node, append.previous, append.previous_term) {
         follow(node);
         return Some(no_to(node, message.from, message.to));
     }
-    match take_in(node, previous, commit, entry) {
-        None => None,
-        Some(agreed) => Some(Message {
-            from: message.to,
-            to: message.from,
-            term: message.term,
-            body: Body::AppendReply(true, agreed),
-        }),
-    }
+    let agreed = take_in(node, append)?;
+    Some(Message {
+        from: message.to,
+        to: message.from,
+        term: message.term,
+        body: Body::AppendReply(Some(agreed)),
+    })
 }
