@@ -1,7 +1,7 @@
 // Edits applied one after the other: to a sheet, and to both machines, which must agree with it.
 #![tactic(auto)]
 
-use machine::{ReplayMachine, StateMachine, UndoMachine};
+use machine::{Opens, ReplayMachine, StateMachine, UndoMachine};
 use sheet::{Edit, Row, Sheet};
 use std::alloc::{AllocError, Global};
 use std::io;

@@ -7,5 +7,5 @@ pub mod state_machine;
 pub mod undo;
 
 pub use replay::ReplayMachine;
-pub use state_machine::StateMachine;
+pub use state_machine::{Opens, StateMachine};
 pub use undo::UndoMachine;

@@ -1,11 +1,12 @@
 // What every machine means: an opening state, a next state after each edit, and a list of 1 to 17 states, newest first.
-ghost use Rattle.std.specs.Prelude.{◌≡◌, ℕ, List, [], ◌∷◌, ℤ, Option};
+ghost use Rattle.std.specs.Prelude.{◌≡◌, ℕ, List, [], ◌∷◌, ℤ, Option, IfOk};
 ghost use Rattle.refusal.specs.Numbers.{told};
 ghost use Rattle.sheet.specs.declared.types.Edit.{Edit as TheEdit};
 ghost use Rattle.machine.specs.States.{Counted, newest, apply_answer, applied, drop_answer, undone, settled, read_answer};
 
 use refusal::Refusal;
 use sheet::Edit;
+use std::alloc::{AllocError, Global};
 
 pub trait StateMachine {
     ghost State: { Type 0 };
@@ -45,4 +46,11 @@ pub trait StateMachine {
     ghost idle: { (s : State) (e : TheEdit) → e.kind ≡ 0 → next s e ≡ s };
 
     ghost counted: { (m : Self) → Counted (states m) };
+}
+
+// What makes a machine.
+pub trait Opens: StateMachine + Sized {
+    // A machine at the opening state alone, with memory for sixteen open edits.
+    fn open(heap: Global) -> Result<Self, AllocError>
+        ensures { IfOk result (λ m. Self.states m ≡ Self.opening ∷ []) };
 }

@@ -4,9 +4,10 @@
 ghost use Rattle.std.specs.Prelude.{◌≡◌, ◌<◌};
 
 use machine::rehearsal::{apply_all, undo_times};
-use machine::{ReplayMachine, StateMachine, UndoMachine};
+use machine::{Opens, StateMachine};
 use sheet::Edit;
 use std::alloc::Global;
+use std::array;
 
 // The edit number `k` of round `n`.
 fn grade_edit(n: u32, k: u32) -> Edit
@@ -26,21 +27,7 @@ fn grade_edit(n: u32, k: u32) -> Edit
 }
 
 fn edits_of(n: u32) -> [Edit; 16] {
-    let mut edits = [Edit {
-        kind: 0,
-        row: 0,
-        size: 0,
-        a: 0,
-        q: 0,
-    }; 16];
-    let mut k = 0;
-    for edit in edits.iter_mut() {
-        if k < 16 {
-            *edit = grade_edit(n, k);
-            k += 1;
-        }
-    }
-    edits
+    array::from_fn(|k| grade_edit(n, k as u32))
 }
 
 // One round: the cell that was read. The machine is left as it was.
@@ -61,8 +48,8 @@ fn settled<M: StateMachine>(machine: &mut M, edit: Edit) {
     let _ = machine.settle();
 }
 
-// Every cell 10,000, then the rounds: the sum of what was read.
-fn rounds<M: StateMachine>(machine: &mut M, count: u32) -> u64 {
+// Every cell becomes 10,000.
+fn filled<M: StateMachine>(machine: &mut M) {
     for row in 1..9 {
         settled(
             machine,
@@ -85,25 +72,16 @@ fn rounds<M: StateMachine>(machine: &mut M, count: u32) -> u64 {
             },
         );
     }
-    let mut sum = 0u64;
-    for n in 0..count {
-        sum = sum.wrapping_add(u64::from(round(machine, n)));
-    }
-    sum
 }
 
-// The rounds over a machine that keeps replaced rows; the largest number where there is no memory.
-pub fn undo_rounds(heap: Global, count: u32) -> u64 {
-    match UndoMachine::open(heap) {
-        Ok(mut machine) => rounds(&mut machine, count),
-        Err(_) => u64::MAX,
-    }
-}
-
-// The same over a machine that keeps the open edits.
-pub fn replay_rounds(heap: Global, count: u32) -> u64 {
-    match ReplayMachine::open(heap) {
-        Ok(mut machine) => rounds(&mut machine, count),
-        Err(_) => u64::MAX,
-    }
+// Every cell 10,000, then the rounds: the sum of what was read; the largest number where there is no memory.
+pub fn rounds<M: Opens + Drop>(heap: Global, count: u32) -> u64 {
+    let Ok(mut machine) = M::open(heap) else {
+        return u64::MAX;
+    };
+    filled(&mut machine);
+    (0..count).fold(
+        0u64,
+        |sum, n| sum.wrapping_add(u64::from(round(&mut machine, n))),
+    )
 }

@@ -5,7 +5,7 @@ mod command;
 mod table;
 
 use command::{Command, command_in};
-use machine::{ReplayMachine, StateMachine, UndoMachine};
+use machine::{Opens, ReplayMachine, StateMachine, UndoMachine};
 use refusal::Refusal;
 use std::io;
 use std::io::{BufRead, BufReader};

@@ -1,4 +1,4 @@
-ghost use Rattle.std.specs.Prelude.{◌≡◌, ℕ, List, [], ◌∷◌, length, IfOk};
+ghost use Rattle.std.specs.Prelude.{◌≡◌, ℕ, List, [], ◌∷◌, length};
 ghost use Rattle.sheet.specs.Cells.{cells_of};
 ghost use Rattle.sheet.specs.Rules.{opening, cell_at, next};
 ghost use Rattle.machine.specs.States.{newest};
@@ -9,7 +9,7 @@ ghost use Rattle.machine.specs.Counts;
 ghost use Rattle.machine.specs.StepsOn.{on_count};
 
 use super::ReplayMachine;
-use crate::state_machine::StateMachine;
+use crate::state_machine::{Opens, StateMachine};
 use refusal::Refusal;
 use sheet::{Edit, Sheet};
 use std::alloc::{AllocError, Global};
@@ -17,17 +17,6 @@ use std::alloc::{AllocError, Global};
 const OPEN_MAX: usize = 16;
 
 impl ReplayMachine {
-    // The machine at its opening state, with memory for sixteen open edits.
-    pub fn open(heap: Global) -> Result<Self, AllocError>
-        ensures { IfOk result (λ m. replay_states m ≡ opening ∷ []) }
-    {
-        let edits = Vec::with_capacity(heap, OPEN_MAX)?;
-        Ok(ReplayMachine {
-            oldest: Sheet::blank(),
-            edits,
-        })
-    }
-
     // The oldest sheet after all the open edits.
     fn replayed(&self) -> Sheet
         ensures { cells_of result ≡ newest opening (replay_states self.now) }
@@ -86,5 +75,15 @@ impl StateMachine for ReplayMachine {
 
     fn read(&self, row: i32, size: i32) -> Result<u16, Refusal> {
         self.replayed().cell(row, size).ok_or(Refusal::OutOfBounds)
+    }
+}
+
+impl Opens for ReplayMachine {
+    fn open(heap: Global) -> Result<Self, AllocError> {
+        let edits = Vec::with_capacity(heap, OPEN_MAX)?;
+        Ok(ReplayMachine {
+            oldest: Sheet::blank(),
+            edits,
+        })
     }
 }

@@ -1,4 +1,4 @@
-ghost use Rattle.std.specs.Prelude.{◌≡◌, ℕ, List, [], ◌∷◌, length, IfOk};
+ghost use Rattle.std.specs.Prelude.{◌≡◌, ℕ, List, length};
 ghost use Rattle.sheet.specs.Cells.{cells_of};
 ghost use Rattle.sheet.specs.Rules.{opening, cell_at, next};
 ghost use Rattle.machine.specs.Sheets.{put_back, undo_states};
@@ -8,7 +8,7 @@ ghost use Rattle.machine.specs.Counts;
 ghost use Rattle.machine.specs.StepsBack.{back_count};
 
 use super::{Replaced, UndoMachine};
-use crate::state_machine::StateMachine;
+use crate::state_machine::{Opens, StateMachine};
 use refusal::Refusal;
 use sheet::{Edit, Sheet};
 use std::alloc::{AllocError, Global};
@@ -30,19 +30,6 @@ fn put_back(sheet: &mut Sheet, replaced: Replaced)
 {
     if let Some(row) = replaced.row {
         sheet.replace_row(replaced.number, row);
-    }
-}
-
-impl UndoMachine {
-    // The machine at its opening state, with memory for sixteen open edits.
-    pub fn open(heap: Global) -> Result<Self, AllocError>
-        ensures { IfOk result (λ m. undo_states m ≡ opening ∷ []) }
-    {
-        let replaced = Vec::with_capacity(heap, OPEN_MAX)?;
-        Ok(UndoMachine {
-            newest: Sheet::blank(),
-            replaced,
-        })
     }
 }
 
@@ -94,5 +81,15 @@ impl StateMachine for UndoMachine {
 
     fn read(&self, row: i32, size: i32) -> Result<u16, Refusal> {
         self.newest.cell(row, size).ok_or(Refusal::OutOfBounds)
+    }
+}
+
+impl Opens for UndoMachine {
+    fn open(heap: Global) -> Result<Self, AllocError> {
+        let replaced = Vec::with_capacity(heap, OPEN_MAX)?;
+        Ok(UndoMachine {
+            newest: Sheet::blank(),
+            replaced,
+        })
     }
 }

@@ -1,7 +1,7 @@
 use Rattle.std.proofs.Common.{ℕ, List, [], ◌∷◌, ap, ◌∙◌}
 use Rattle.sheet.specs.Cells.{cells_of}
 use Rattle.machine.specs.Sheets.{replay_states, steps_on}
-use Rattle.machine.proofs.replay.ReplayMachine.open.Goals as goal
+use Rattle.machine.proofs.replay.moves.ReplayMachineOpens.open.Goals as goal
 
 pub returns : goal.returns
 unfolding replay_states

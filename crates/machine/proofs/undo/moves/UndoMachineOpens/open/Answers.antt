@@ -2,7 +2,7 @@ use Rattle.std.proofs.Common.{ℕ, List, [], ◌∷◌, reverse, ap, ◌∙◌}
 use Rattle.sheet.specs.Cells.{cells_of}
 use Rattle.machine.specs.declared.undo.Replaced.{Replaced}
 use Rattle.machine.specs.Sheets.{undo_states, steps_back}
-use Rattle.machine.proofs.undo.UndoMachine.open.Goals as goal
+use Rattle.machine.proofs.undo.moves.UndoMachineOpens.open.Goals as goal
 
 pub returns : goal.returns
 unfolding undo_states
