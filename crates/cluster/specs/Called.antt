@@ -1,12 +1,12 @@
 -- What a call promises.
-use Rattle.std.specs.Prelude.{◌≡◌, List, [], ◌∷◌, ◌++◌}
-use Rattle.store.specs.Stores.{StoreState}
+use Rattle.std.specs.Prelude.{◌≡◌, [], ◌∷◌, ◌++◌}
 use Rattle.store.specs.declared.Store.{Ghosts as StoreGhosts}
 use Rattle.machine.specs.declared.state_machine.StateMachine.{Ghosts as MachineGhosts}
 use Rattle.protocol.specs.State.{Machine, Cluster as Model, opening}
 use Rattle.protocol.specs.Calls.{Call, Answer, answer, after, Allowed}
 use Rattle.protocol.specs.Runs.{History, Run, following}
 use Rattle.protocol.specs.Promises.{Promises}
+use Rattle.server.specs.Turns.{kind_of}
 use Rattle.cluster.specs.declared.state.Cluster.{Cluster}
 use Rattle.cluster.specs.Meaning.{cluster_of}
 
@@ -19,6 +19,6 @@ pub record Called {X : Type 0} (K : Machine X) (c : Call) (a : Answer) (before l
   pub runs : (h : History) → Run K h → before ≡ following K (opening K) h
       → Run K (h ++ (c, a) ∷ []) × (later ≡ following K (opening K) (h ++ (c, a) ∷ [])) × Promises K (h ++ (c, a) ∷ [])
 
-abbrev pub Calls : {S M X : Type 0} {s : StoreGhosts S} {m : MachineGhosts M}
-    → (S → StoreState) → (M → List X) → Machine X → Call → Answer → Cluster S M s m → Cluster S M s m → Type 0
-Calls meaning states K c a before later = Called K c a (cluster_of meaning states K before) (cluster_of meaning states K later)
+-- The same of a cluster that runs: what is meant by its states is what the bounds of its stores and machines say.
+abbrev pub Calls : {S M : Type 0} {s : StoreGhosts S} {m : MachineGhosts M} → Call → Answer → Cluster S M s m → Cluster S M s m → Type 0
+Calls {m = m} c a before later = Called (kind_of m) c a (cluster_of before) (cluster_of later)

@@ -1,13 +1,12 @@
 -- What a cluster means: one of the protocol's.
 use Rattle.std.specs.Prelude.{List, [], ◌∷◌, map, vec_items}
-use Rattle.store.specs.Stores.{StoreState}
 use Rattle.store.specs.declared.Store.{Ghosts as StoreGhosts}
 use Rattle.machine.specs.declared.state_machine.StateMachine.{Ghosts as MachineGhosts}
 use Rattle.protocol.specs.declared.ServerId.TheVariants.{One}
 use Rattle.protocol.specs.declared.Message.{Message}
 use Rattle.protocol.specs.State.{Server as State, Machine, Cluster as Model, core_opening}
 use Rattle.node.specs.Meaning.{of3}
-use Rattle.server.specs.Turns.{state_of, states_of}
+use Rattle.server.specs.Turns.{kind_of, state_of, states_of}
 use Rattle.cluster.specs.declared.state.Cluster.{Cluster}
 
 -- a server as it opens
@@ -21,5 +20,5 @@ model K view states xs p = record {
   states = of3 (K.opening ∷ []) (map states xs);
 }
 
-abbrev pub cluster_of : {S M X : Type 0} {s : StoreGhosts S} {m : MachineGhosts M} → (S → StoreState) → (M → List X) → Machine X → Cluster S M s m → Model X
-cluster_of meaning states K c = model K (state_of meaning states) (states_of meaning states) (vec_items c.servers) (vec_items c.network.messages)
+abbrev pub cluster_of : {S M : Type 0} {s : StoreGhosts S} {m : MachineGhosts M} → Cluster S M s m → Model m.State
+cluster_of {s = s} {m = m} c = model (kind_of m) (state_of s) (states_of m) (vec_items c.servers) (vec_items c.network.messages)

@@ -26,7 +26,7 @@ impl<S: Store + Drop, M: StateMachine + Drop> Cluster<S, M> {
         second: (S, M),
         third: (S, M),
     ) -> Result<Self, AllocError>
-        ensures { IfOk result (λ c. cluster_of S.Store.meaning M.StateMachine.states (kind_of M.StateMachine.opening M.StateMachine.next M.StateMachine.cell) c ≡ openingOf (kind_of M.StateMachine.opening M.StateMachine.next M.StateMachine.cell)) }
+        ensures { IfOk result (λ c. cluster_of c ≡ openingOf (kind_of M.StateMachine)) }
     {
         let (first_store, first_machine) = first;
         let (second_store, second_machine) = second;
@@ -44,7 +44,7 @@ impl<S: Store + Drop, M: StateMachine + Drop> Cluster<S, M> {
 
     // A server takes the next term and asks for votes. Tells how many messages were lost.
     pub fn campaign(&mut self, server: u32) -> Result<u32, Refusal>
-        ensures { Calls S.Store.meaning M.StateMachine.states (kind_of M.StateMachine.opening M.StateMachine.next M.StateMachine.cell) (campaignBy server) (said lost (told result)) self.old self.new }
+        ensures { Calls (campaignBy server) (said lost (told result)) self.old self.new }
     {
         match server_numbered(server) {
             None => Err(Refusal::NoSuchServer),
@@ -64,7 +64,7 @@ impl<S: Store + Drop, M: StateMachine + Drop> Cluster<S, M> {
 
     // The message at a position reaches its receiver, and stays in the network only if it is to be kept. Tells how many messages were lost.
     pub fn deliver(&mut self, position: u32, keep: bool) -> Result<u32, Refusal>
-        ensures { Calls S.Store.meaning M.StateMachine.states (kind_of M.StateMachine.opening M.StateMachine.next M.StateMachine.cell) (deliverAt position keep) (said lost (told result)) self.old self.new }
+        ensures { Calls (deliverAt position keep) (said lost (told result)) self.old self.new }
     {
         match self.network.message_at(position) {
             None => Err(Refusal::NoSuchMessage),
@@ -82,7 +82,7 @@ impl<S: Store + Drop, M: StateMachine + Drop> Cluster<S, M> {
 
     // The message at a position is lost.
     pub fn lose(&mut self, position: u32) -> Result<(), Refusal>
-        ensures { Calls S.Store.meaning M.StateMachine.states (kind_of M.StateMachine.opening M.StateMachine.next M.StateMachine.cell) (loseAt position) (said (λ _. done) (told result)) self.old self.new }
+        ensures { Calls (loseAt position) (said (λ _. done) (told result)) self.old self.new }
     {
         if !self.network.has(position) {
             return Err(Refusal::NoSuchMessage);
@@ -93,7 +93,7 @@ impl<S: Store + Drop, M: StateMachine + Drop> Cluster<S, M> {
 
     // A leader takes an edit as its next entry.
     pub fn propose(&mut self, server: u32, edit: Edit) -> Result<Proposed, Refusal>
-        ensures { Calls S.Store.meaning M.StateMachine.states (kind_of M.StateMachine.opening M.StateMachine.next M.StateMachine.cell) (proposeTo server edit) (said (λ x. ticket x.0 x.1) (told_proposed result)) self.old self.new }
+        ensures { Calls (proposeTo server edit) (said (λ x. ticket x.0 x.1) (told_proposed result)) self.old self.new }
     {
         match server_numbered(server) {
             None => Err(Refusal::NoSuchServer),
@@ -106,7 +106,7 @@ impl<S: Store + Drop, M: StateMachine + Drop> Cluster<S, M> {
 
     // A server makes its entries durable; a leader then raises its commit.
     pub fn firm(&mut self, server: u32) -> Result<(), Refusal>
-        ensures { Calls S.Store.meaning M.StateMachine.states (kind_of M.StateMachine.opening M.StateMachine.next M.StateMachine.cell) (firmAt server) (said (λ _. done) (told result)) self.old self.new }
+        ensures { Calls (firmAt server) (said (λ _. done) (told result)) self.old self.new }
     {
         match server_numbered(server) {
             None => Err(Refusal::NoSuchServer),
@@ -119,7 +119,7 @@ impl<S: Store + Drop, M: StateMachine + Drop> Cluster<S, M> {
 
     // A leader sends another server what comes next for it. Tells how many messages were lost.
     pub fn send(&mut self, server: u32, receiver: u32) -> Result<u32, Refusal>
-        ensures { Calls S.Store.meaning M.StateMachine.states (kind_of M.StateMachine.opening M.StateMachine.next M.StateMachine.cell) (sendTo server receiver) (said lost (told result)) self.old self.new }
+        ensures { Calls (sendTo server receiver) (said lost (told result)) self.old self.new }
     {
         let sender = server_numbered(server);
         let other = server_numbered(receiver);
@@ -140,7 +140,7 @@ impl<S: Store + Drop, M: StateMachine + Drop> Cluster<S, M> {
 
     // A server applies its next entry, below commit or openly.
     pub fn apply(&mut self, server: u32) -> Result<(), Refusal>
-        ensures { Calls S.Store.meaning M.StateMachine.states (kind_of M.StateMachine.opening M.StateMachine.next M.StateMachine.cell) (applyAt server) (said (λ _. done) (told result)) self.old self.new }
+        ensures { Calls (applyAt server) (said (λ _. done) (told result)) self.old self.new }
     {
         match server_numbered(server) {
             None => Err(Refusal::NoSuchServer),
@@ -153,7 +153,7 @@ impl<S: Store + Drop, M: StateMachine + Drop> Cluster<S, M> {
 
     // A server stops. Tells how many entries are left; `wish` is how many volatile ones may stay.
     pub fn outage(&mut self, server: u32, wish: u32) -> Result<u32, Refusal>
-        ensures { Calls S.Store.meaning M.StateMachine.states (kind_of M.StateMachine.opening M.StateMachine.next M.StateMachine.cell) (outageOf server (kept_by result)) (said keeps (told result)) self.old self.new }
+        ensures { Calls (outageOf server (kept_by result)) (said keeps (told result)) self.old self.new }
     {
         match server_numbered(server) {
             None => Err(Refusal::NoSuchServer),
@@ -166,7 +166,7 @@ impl<S: Store + Drop, M: StateMachine + Drop> Cluster<S, M> {
 
     // A stopped server starts again.
     pub fn restart(&mut self, server: u32) -> Result<(), Refusal>
-        ensures { Calls S.Store.meaning M.StateMachine.states (kind_of M.StateMachine.opening M.StateMachine.next M.StateMachine.cell) (restartOf server) (said (λ _. done) (told result)) self.old self.new }
+        ensures { Calls (restartOf server) (said (λ _. done) (told result)) self.old self.new }
     {
         match server_numbered(server) {
             None => Err(Refusal::NoSuchServer),

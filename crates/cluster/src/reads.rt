@@ -2,7 +2,6 @@
 ghost use Rattle.std.specs.Prelude.{◌≡◌};
 ghost use Rattle.refusal.specs.Numbers.{told};
 ghost use Rattle.protocol.specs.Calls.{said, word, cell, standing as standingAt, look as lookAt};
-ghost use Rattle.server.specs.Turns.{kind_of};
 ghost use Rattle.cluster.specs.Meaning.{cluster_of};
 ghost use Rattle.cluster.specs.Called.{Calls};
 ghost use Rattle.cluster.specs.Statuses.{status_of};
@@ -29,7 +28,7 @@ pub struct Status {
 impl<S: Store + Drop, M: StateMachine + Drop> Cluster<S, M> {
     // What a server tells of the ticket with a number and a term.
     pub fn standing(&self, server: u32, number: u32, term: u32) -> Result<Standing, Refusal>
-        ensures { Calls S.Store.meaning M.StateMachine.states (kind_of M.StateMachine.opening M.StateMachine.next M.StateMachine.cell) (standingAt server number term) (said word (told result)) self.now self.now }
+        ensures { Calls (standingAt server number term) (said word (told result)) self.now self.now }
     {
         match server_numbered(server) {
             None => Err(Refusal::NoSuchServer),
@@ -42,7 +41,7 @@ impl<S: Store + Drop, M: StateMachine + Drop> Cluster<S, M> {
 
     // A cell of the newest sheet at a server.
     pub fn look(&self, server: u32, row: i32, size: i32) -> Result<u16, Refusal>
-        ensures { Calls S.Store.meaning M.StateMachine.states (kind_of M.StateMachine.opening M.StateMachine.next M.StateMachine.cell) (lookAt server row size) (said cell (told result)) self.now self.now }
+        ensures { Calls (lookAt server row size) (said cell (told result)) self.now self.now }
     {
         match server_numbered(server) {
             None => Err(Refusal::NoSuchServer),
@@ -54,7 +53,7 @@ impl<S: Store + Drop, M: StateMachine + Drop> Cluster<S, M> {
     }
 
     pub fn status(&self, server: ServerId) -> Status
-        ensures { result ≡ status_of ((cluster_of S.Store.meaning M.StateMachine.states (kind_of M.StateMachine.opening M.StateMachine.next M.StateMachine.cell) self.now).core.server server) }
+        ensures { result ≡ status_of ((cluster_of self.now).core.server server) }
     {
         let s = &self.servers[place_of(server)];
         Status {

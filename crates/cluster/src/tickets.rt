@@ -1,7 +1,6 @@
 // The calls that hand out a ticket and close it.
 ghost use Rattle.std.specs.Prelude.{◌≡◌};
 ghost use Rattle.protocol.specs.Calls.{said, ticket as ticketSaid, word, propose as proposeTo, close as closeAt};
-ghost use Rattle.server.specs.Turns.{kind_of};
 ghost use Rattle.server.specs.Tickets.{told_ticket, told_closed, HandsBack};
 ghost use Rattle.cluster.specs.Called.{Calls};
 
@@ -16,7 +15,7 @@ use store::Store;
 impl<S: Store + Drop, M: StateMachine + Drop> Cluster<S, M> {
     // A leader takes an edit as its next entry, and hands out a ticket for it.
     pub fn propose_ticket(&mut self, server: u32, edit: Edit) -> Result<Ticket, Refusal>
-        ensures { Calls S.Store.meaning M.StateMachine.states (kind_of M.StateMachine.opening M.StateMachine.next M.StateMachine.cell) (proposeTo server edit) (said (λ x. ticketSaid x.0 x.1) (told_ticket result)) self.old self.new }
+        ensures { Calls (proposeTo server edit) (said (λ x. ticketSaid x.0 x.1) (told_ticket result)) self.old self.new }
     {
         match server_numbered(server) {
             None => Err(Refusal::NoSuchServer),
@@ -29,7 +28,7 @@ impl<S: Store + Drop, M: StateMachine + Drop> Cluster<S, M> {
 
     // Closes a ticket whose outcome the server can tell. A refused close hands the ticket back.
     pub fn close(&self, server: u32, ticket: Ticket) -> Result<Outcome, Unclosed>
-        ensures calls { Calls S.Store.meaning M.StateMachine.states (kind_of M.StateMachine.opening M.StateMachine.next M.StateMachine.cell) (closeAt server ticket.number ticket.term) (said word (told_closed result)) self.now self.now }
+        ensures calls { Calls (closeAt server ticket.number ticket.term) (said word (told_closed result)) self.now self.now }
         ensures back { HandsBack result ticket }
     {
         match server_numbered(server) {

@@ -24,8 +24,8 @@ use store::Store;
 impl<S: Store + Drop, M: StateMachine + Drop> Server<S, M> {
     // Clears the store, and resets the machine.
     pub fn open(store: S, mut machine: M) -> Self
-        ensures state { state_of S.Store.meaning M.StateMachine.states result ≡ core_opening.server One }
-        ensures states { states_of S.Store.meaning M.StateMachine.states result ≡ M.StateMachine.opening ∷ [] }
+        ensures state { state_of S.Store result ≡ core_opening.server One }
+        ensures states { states_of M.StateMachine result ≡ M.StateMachine.opening ∷ [] }
     {
         machine.reset();
         Server {
@@ -36,8 +36,8 @@ impl<S: Store + Drop, M: StateMachine + Drop> Server<S, M> {
 
     // A campaign: the two vote requests.
     pub fn campaign(&mut self, me: ServerId) -> Result<(Message, Message), Refusal>
-        ensures says { told result ≡ stand_answer me (state_of S.Store.meaning M.StateMachine.states self.old) }
-        ensures turns { Turned S.Store.meaning M.StateMachine.states (kind_of M.StateMachine.opening M.StateMachine.next M.StateMachine.cell) self.old (campaigns me) self.new }
+        ensures says { told result ≡ stand_answer me (state_of S.Store self.old) }
+        ensures turns { Turned S.Store M.StateMachine self.old (campaigns me) self.new }
     {
         let up = self.node.up;
         let applied = self.node.applied;
@@ -49,8 +49,8 @@ impl<S: Store + Drop, M: StateMachine + Drop> Server<S, M> {
 
     // A message at its receiver: the message that goes back, if there is one.
     pub fn hear(&mut self, message: Message) -> Option<Message>
-        ensures says { result ≡ replies (caught_up message.term (state_of S.Store.meaning M.StateMachine.states self.old)) message.from message.to message.term message.body }
-        ensures turns { Turned S.Store.meaning M.StateMachine.states (kind_of M.StateMachine.opening M.StateMachine.next M.StateMachine.cell) self.old (λ s. hears (caught_up message.term s) message.from message.to message.term message.body) self.new }
+        ensures says { result ≡ replies (caught_up message.term (state_of S.Store self.old)) message.from message.to message.term message.body }
+        ensures turns { Turned S.Store M.StateMachine self.old (λ s. hears (caught_up message.term s) message.from message.to message.term message.body) self.new }
     {
         let up = self.node.up;
         let applied = self.node.applied;
@@ -61,8 +61,8 @@ impl<S: Store + Drop, M: StateMachine + Drop> Server<S, M> {
     }
 
     pub fn propose(&mut self, edit: Edit) -> Result<Proposed, Refusal>
-        ensures says { told_proposed result ≡ propose_answer (state_of S.Store.meaning M.StateMachine.states self.old) }
-        ensures turns { Turned S.Store.meaning M.StateMachine.states (kind_of M.StateMachine.opening M.StateMachine.next M.StateMachine.cell) self.old (proposes edit) self.new }
+        ensures says { told_proposed result ≡ propose_answer (state_of S.Store self.old) }
+        ensures turns { Turned S.Store M.StateMachine self.old (proposes edit) self.new }
     {
         let up = self.node.up;
         let applied = self.node.applied;
@@ -73,8 +73,8 @@ impl<S: Store + Drop, M: StateMachine + Drop> Server<S, M> {
     }
 
     pub fn firm(&mut self, me: ServerId) -> Result<(), Refusal>
-        ensures says { told result ≡ firm_answer (state_of S.Store.meaning M.StateMachine.states self.old) }
-        ensures turns { Turned S.Store.meaning M.StateMachine.states (kind_of M.StateMachine.opening M.StateMachine.next M.StateMachine.cell) self.old (firms me) self.new }
+        ensures says { told result ≡ firm_answer (state_of S.Store self.old) }
+        ensures turns { Turned S.Store M.StateMachine self.old (firms me) self.new }
     {
         let up = self.node.up;
         let applied = self.node.applied;
@@ -86,7 +86,7 @@ impl<S: Store + Drop, M: StateMachine + Drop> Server<S, M> {
 
     // The append request to another server.
     pub fn request(&self, me: ServerId, receiver: ServerId) -> Result<Message, Refusal>
-        ensures { told result ≡ request_answer me receiver (state_of S.Store.meaning M.StateMachine.states self.now) }
+        ensures { told result ≡ request_answer me receiver (state_of S.Store self.now) }
     {
         if !self.node.up {
             return Err(Refusal::ServerDown);
@@ -101,8 +101,8 @@ impl<S: Store + Drop, M: StateMachine + Drop> Server<S, M> {
     }
 
     pub fn apply(&mut self) -> Result<(), Refusal>
-        ensures says { told result ≡ apply_answer (state_of S.Store.meaning M.StateMachine.states self.old) }
-        ensures turns { Turned S.Store.meaning M.StateMachine.states (kind_of M.StateMachine.opening M.StateMachine.next M.StateMachine.cell) self.old applies_next self.new }
+        ensures says { told result ≡ apply_answer (state_of S.Store self.old) }
+        ensures turns { Turned S.Store M.StateMachine self.old applies_next self.new }
     {
         let up = self.node.up;
         let applied = self.node.applied;
@@ -114,9 +114,9 @@ impl<S: Store + Drop, M: StateMachine + Drop> Server<S, M> {
 
     // Stops the server, and tells how many entries are left.
     pub fn outage(&mut self, wish: u32) -> Result<u32, Refusal>
-        ensures says { told result ≡ outage_answer (state_of S.Store.meaning M.StateMachine.states self.old) (kept_by result) }
-        ensures may { may_keep_at (kept_by result) (state_of S.Store.meaning M.StateMachine.states self.old) ≡ true }
-        ensures turns { Turned S.Store.meaning M.StateMachine.states (kind_of M.StateMachine.opening M.StateMachine.next M.StateMachine.cell) self.old (fails (kept_by result)) self.new }
+        ensures says { told result ≡ outage_answer (state_of S.Store self.old) (kept_by result) }
+        ensures may { may_keep_at (kept_by result) (state_of S.Store self.old) ≡ true }
+        ensures turns { Turned S.Store M.StateMachine self.old (fails (kept_by result)) self.new }
     {
         let up = self.node.up;
         let applied = self.node.applied;
@@ -127,8 +127,8 @@ impl<S: Store + Drop, M: StateMachine + Drop> Server<S, M> {
     }
 
     pub fn restart(&mut self) -> Result<(), Refusal>
-        ensures says { told result ≡ restart_answer (state_of S.Store.meaning M.StateMachine.states self.old) }
-        ensures turns { Turned S.Store.meaning M.StateMachine.states (kind_of M.StateMachine.opening M.StateMachine.next M.StateMachine.cell) self.old restarts self.new }
+        ensures says { told result ≡ restart_answer (state_of S.Store self.old) }
+        ensures turns { Turned S.Store M.StateMachine self.old restarts self.new }
     {
         let up = self.node.up;
         let applied = self.node.applied;
@@ -139,7 +139,7 @@ impl<S: Store + Drop, M: StateMachine + Drop> Server<S, M> {
     }
 
     pub fn standing(&self, number: u32, term: u32) -> Result<Standing, Refusal>
-        ensures { told result ≡ standing_answer (state_of S.Store.meaning M.StateMachine.states self.now) number term }
+        ensures { told result ≡ standing_answer (state_of S.Store self.now) number term }
     {
         if !self.node.up {
             return Err(Refusal::ServerDown);
@@ -149,7 +149,7 @@ impl<S: Store + Drop, M: StateMachine + Drop> Server<S, M> {
 
     // A cell of the machine's newest state.
     pub fn look(&self, row: i32, size: i32) -> Result<u16, Refusal>
-        ensures { told result ≡ look_answer (kind_of M.StateMachine.opening M.StateMachine.next M.StateMachine.cell) (state_of S.Store.meaning M.StateMachine.states self.now) (states_of S.Store.meaning M.StateMachine.states self.now) row size }
+        ensures { told result ≡ look_answer (kind_of M.StateMachine) (state_of S.Store self.now) (states_of M.StateMachine self.now) row size }
     {
         if !self.node.up {
             return Err(Refusal::ServerDown);

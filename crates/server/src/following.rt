@@ -38,7 +38,7 @@ fn edit_at<S: Store + Drop>(node: &Node<S>, i: u32) -> Edit
 
 // Applies or undoes, from `was` applied entries to those of the node.
 fn advance<S: Store + Drop, M: StateMachine + Drop>(machine: &mut M, was: u32, node: &Node<S>)
-    ensures { M.StateMachine.states machine.new ≡ advanced (kind_of M.StateMachine.opening M.StateMachine.next M.StateMachine.cell) was (server_of S.Store.meaning node.now) (M.StateMachine.states machine.old) }
+    ensures { M.StateMachine.states machine.new ≡ advanced (kind_of M.StateMachine) was (server_of S.Store.meaning node.now) (M.StateMachine.states machine.old) }
 {
     if was < node.applied {
         let _ = machine.apply(edit_at(node, was));
@@ -55,7 +55,7 @@ pub fn follow<S: Store + Drop, M: StateMachine + Drop>(
     commit: u32,
     node: &Node<S>,
 )
-    ensures { M.StateMachine.states machine.new ≡ moved_from (kind_of M.StateMachine.opening M.StateMachine.next M.StateMachine.cell) up applied commit (server_of S.Store.meaning node.now) (M.StateMachine.states machine.old) }
+    ensures { M.StateMachine.states machine.new ≡ moved_from (kind_of M.StateMachine) up applied commit (server_of S.Store.meaning node.now) (M.StateMachine.states machine.old) }
 {
     if up && !node.up {
         machine.reset();

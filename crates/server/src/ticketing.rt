@@ -39,8 +39,8 @@ fn close_at<S: Store + Drop>(node: &Node<S>, ticket: Ticket) -> Result<Outcome, 
 impl<S: Store + Drop, M: StateMachine + Drop> Server<S, M> {
     // A leader takes an edit as its next entry, and hands out a ticket for it.
     pub fn propose_ticket(&mut self, edit: Edit) -> Result<Ticket, Refusal>
-        ensures says { told_ticket result ≡ propose_answer (state_of S.Store.meaning M.StateMachine.states self.old) }
-        ensures turns { Turned S.Store.meaning M.StateMachine.states (kind_of M.StateMachine.opening M.StateMachine.next M.StateMachine.cell) self.old (proposes edit) self.new }
+        ensures says { told_ticket result ≡ propose_answer (state_of S.Store self.old) }
+        ensures turns { Turned S.Store M.StateMachine self.old (proposes edit) self.new }
     {
         match self.propose(edit) {
             Ok(proposed) => Ok(Ticket {
@@ -53,7 +53,7 @@ impl<S: Store + Drop, M: StateMachine + Drop> Server<S, M> {
 
     // Closes a ticket whose outcome the server can tell, or hands it back.
     pub fn close(&self, ticket: Ticket) -> Result<Outcome, Unclosed>
-        ensures says { told_closed result ≡ close_answer (state_of S.Store.meaning M.StateMachine.states self.now) ticket.number ticket.term }
+        ensures says { told_closed result ≡ close_answer (state_of S.Store self.now) ticket.number ticket.term }
         ensures back { HandsBack result ticket }
     {
         close_at(&self.node, ticket)

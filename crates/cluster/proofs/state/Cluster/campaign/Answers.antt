@@ -10,20 +10,20 @@ use Rattle.cluster.proofs.state.Cluster.campaign.Goals as goal
 pub returns-in-None : goal.returns-in-None
 returns-in-None g c =
     let k = c.args.self.now in
-    let w = (model (kind_of g.M.StateMachine.opening g.M.StateMachine.next g.M.StateMachine.cell) (state_of g.S.Store.meaning g.M.StateMachine.states) (states_of g.S.Store.meaning g.M.StateMachine.states) (vec_items k.servers) (vec_items k.network.messages)).core in
-    nobody (kind_of g.M.StateMachine.opening g.M.StateMachine.next g.M.StateMachine.cell) (state_of g.S.Store.meaning g.M.StateMachine.states) (states_of g.S.Store.meaning g.M.StateMachine.states) (vec_items k.servers) (vec_items k.network.messages) c.args.server (sym c.in-None.is ∙ c.server_numbered.ensures)
+    let w = (model (kind_of g.M.StateMachine) (state_of g.S.Store) (states_of g.M.StateMachine) (vec_items k.servers) (vec_items k.network.messages)).core in
+    nobody (kind_of g.M.StateMachine) (state_of g.S.Store) (states_of g.M.StateMachine) (vec_items k.servers) (vec_items k.network.messages) c.args.server (sym c.in-None.is ∙ c.server_numbered.ensures)
     (campaign c.args.server) (λ r. said lost (campaign_answer w r)) (campaign_call w) refl refl refl
 
 pub returns-in-Err : goal.returns-in-Err
 returns-in-Err g c =
     let k = c.args.self.now in
-    campaign_refused (kind_of g.M.StateMachine.opening g.M.StateMachine.next g.M.StateMachine.cell) (state_of g.S.Store.meaning g.M.StateMachine.states) (states_of g.S.Store.meaning g.M.StateMachine.states) (vec_items k.servers) (vec_items k.network.messages) c.in-Some.me _ c.index_mut-s.result.now k.three c.place_of.ensures.is c.index_mut-s.ensures.value c.args.server (sym c.in-Some.is ∙ c.server_numbered.ensures)
+    campaign_refused (kind_of g.M.StateMachine) (state_of g.S.Store) (states_of g.M.StateMachine) (vec_items k.servers) (vec_items k.network.messages) c.in-Some.me _ c.index_mut-s.result.now k.three c.place_of.ensures.is c.index_mut-s.ensures.value c.args.server (sym c.in-Some.is ∙ c.server_numbered.ensures)
     _ c.campaign.ensures.turns.goes c.campaign.ensures.turns.moves _ (ap told (sym c.in-Err.is) ∙ c.campaign.ensures.says)
 
 pub returns-in-Ok : goal.returns-in-Ok
 returns-in-Ok g c =
     let k = c.args.self.now in
-    campaign_done (kind_of g.M.StateMachine.opening g.M.StateMachine.next g.M.StateMachine.cell) (state_of g.S.Store.meaning g.M.StateMachine.states) (states_of g.S.Store.meaning g.M.StateMachine.states) (vec_items k.servers) (vec_items k.network.messages) c.in-Some.me _ c.index_mut-s.result.now k.three c.place_of.ensures.is c.index_mut-s.ensures.value c.args.server (sym c.in-Some.is ∙ c.server_numbered.ensures)
+    campaign_done (kind_of g.M.StateMachine) (state_of g.S.Store) (states_of g.M.StateMachine) (vec_items k.servers) (vec_items k.network.messages) c.in-Some.me _ c.index_mut-s.result.now k.three c.place_of.ensures.is c.index_mut-s.ensures.value c.args.server (sym c.in-Some.is ∙ c.server_numbered.ensures)
     _ c.campaign.ensures.turns.goes c.campaign.ensures.turns.moves c.in-Ok.low c.in-Ok.high (ap told (sym c.in-Ok.is) ∙ c.campaign.ensures.says)
     c.post-a.result c.post-b.result (vec_items c.post-a.new.self.messages) (vec_items c.post-b.new.self.messages)
     c.post-a.ensures.messages c.post-a.ensures.lost c.post-b.ensures.messages c.post-b.ensures.lost

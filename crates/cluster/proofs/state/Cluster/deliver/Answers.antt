@@ -6,18 +6,18 @@ use Rattle.cluster.proofs.state.Cluster.deliver.Goals as goal
 pub returns-in-None : goal.returns-in-None
 returns-in-None g c =
     let k = c.args.self.now in
-    deliver_none (kind_of g.M.StateMachine.opening g.M.StateMachine.next g.M.StateMachine.cell) (state_of g.S.Store.meaning g.M.StateMachine.states) (states_of g.S.Store.meaning g.M.StateMachine.states) (vec_items k.servers) (vec_items k.network.messages) c.args.position c.args.keep (sym c.in-None.is ∙ c.message_at.ensures)
+    deliver_none (kind_of g.M.StateMachine) (state_of g.S.Store) (states_of g.M.StateMachine) (vec_items k.servers) (vec_items k.network.messages) c.args.position c.args.keep (sym c.in-None.is ∙ c.message_at.ensures)
 
 pub returns-then-not-s : goal.returns-then-not-s
 returns-then-not-s g c =
     let k = c.args.self.now in
-    deliver_down (kind_of g.M.StateMachine.opening g.M.StateMachine.next g.M.StateMachine.cell) (state_of g.S.Store.meaning g.M.StateMachine.states) (states_of g.S.Store.meaning g.M.StateMachine.states) (vec_items k.servers) (vec_items k.network.messages) c.args.position c.args.keep c.in-Some.message (sym c.in-Some.is ∙ c.message_at.ensures)
+    deliver_down (kind_of g.M.StateMachine) (state_of g.S.Store) (states_of g.M.StateMachine) (vec_items k.servers) (vec_items k.network.messages) c.args.position c.args.keep c.in-Some.message (sym c.in-Some.is ∙ c.message_at.ensures)
     _ c.index_mut-s.result.now k.three c.place_of.ensures.is c.index_mut-s.ensures.value _ refl c.if-not-s.true
 
 pub returns-else-not-s : goal.returns-else-not-s
 returns-else-not-s g c =
     let k = c.args.self.now in
-    deliver_done (kind_of g.M.StateMachine.opening g.M.StateMachine.next g.M.StateMachine.cell) (state_of g.S.Store.meaning g.M.StateMachine.states) (states_of g.S.Store.meaning g.M.StateMachine.states) (vec_items k.servers) (vec_items k.network.messages) c.args.position c.args.keep c.in-Some.message (sym c.in-Some.is ∙ c.message_at.ensures)
+    deliver_done (kind_of g.M.StateMachine) (state_of g.S.Store) (states_of g.M.StateMachine) (vec_items k.servers) (vec_items k.network.messages) c.args.position c.args.keep c.in-Some.message (sym c.in-Some.is ∙ c.message_at.ensures)
     _ c.index_mut-s.result.now k.three c.place_of.ensures.is c.index_mut-s.ensures.value
     _ c.hear-reply.result c.post_some.result (vec_items c.take_out.new.self.messages) (vec_items c.post_some.new.self.messages) c.if-not-s.false
     c.hear-reply.ensures.turns.goes c.hear-reply.ensures.turns.moves c.hear-reply.ensures.says c.take_out.ensures c.post_some.ensures.messages c.post_some.ensures.lost

@@ -6,9 +6,9 @@ use Rattle.cluster.proofs.state.Cluster.lose.Goals as goal
 pub returns-then-not-has : goal.returns-then-not-has
 returns-then-not-has g c =
     let k = c.args.self.now in
-    lose_none (kind_of g.M.StateMachine.opening g.M.StateMachine.next g.M.StateMachine.cell) (state_of g.S.Store.meaning g.M.StateMachine.states) (states_of g.S.Store.meaning g.M.StateMachine.states) (vec_items k.servers) (vec_items k.network.messages) c.args.position (sym c.has.ensures ∙ c.if-not-has.true)
+    lose_none (kind_of g.M.StateMachine) (state_of g.S.Store) (states_of g.M.StateMachine) (vec_items k.servers) (vec_items k.network.messages) c.args.position (sym c.has.ensures ∙ c.if-not-has.true)
 
 pub returns : goal.returns
 returns g c =
     let k = c.args.self.now in
-    lose_done (kind_of g.M.StateMachine.opening g.M.StateMachine.next g.M.StateMachine.cell) (state_of g.S.Store.meaning g.M.StateMachine.states) (states_of g.S.Store.meaning g.M.StateMachine.states) (vec_items k.servers) (vec_items k.network.messages) c.args.position (sym c.has.ensures ∙ c.if-not-has.false) _ c.take_out.ensures
+    lose_done (kind_of g.M.StateMachine) (state_of g.S.Store) (states_of g.M.StateMachine) (vec_items k.servers) (vec_items k.network.messages) c.args.position (sym c.has.ensures ∙ c.if-not-has.false) _ c.take_out.ensures

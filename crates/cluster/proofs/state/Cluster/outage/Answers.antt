@@ -12,8 +12,8 @@ use Rattle.cluster.proofs.state.Cluster.outage.Goals as goal
 pub returns-in-None : goal.returns-in-None
 returns-in-None g c =
     let k = c.args.self.now in
-    let w = (model (kind_of g.M.StateMachine.opening g.M.StateMachine.next g.M.StateMachine.cell) (state_of g.S.Store.meaning g.M.StateMachine.states) (states_of g.S.Store.meaning g.M.StateMachine.states) (vec_items k.servers) (vec_items k.network.messages)).core in
-    nobody (kind_of g.M.StateMachine.opening g.M.StateMachine.next g.M.StateMachine.cell) (state_of g.S.Store.meaning g.M.StateMachine.states) (states_of g.S.Store.meaning g.M.StateMachine.states) (vec_items k.servers) (vec_items k.network.messages) c.args.server (sym c.in-None.is ∙ c.server_numbered.ensures)
+    let w = (model (kind_of g.M.StateMachine) (state_of g.S.Store) (states_of g.M.StateMachine) (vec_items k.servers) (vec_items k.network.messages)).core in
+    nobody (kind_of g.M.StateMachine) (state_of g.S.Store) (states_of g.M.StateMachine) (vec_items k.servers) (vec_items k.network.messages) c.args.server (sym c.in-None.is ∙ c.server_numbered.ensures)
     (outage c.args.server 0) (λ r. said keeps (outage_answer (w.server r) 0)) (λ r. change w r (fails 0 (w.server r))) refl refl
     (numbered_none c.args.server (λ r. may_keep_at 0 (w.server r)) true (sym c.in-None.is ∙ c.server_numbered.ensures))
 
@@ -21,7 +21,7 @@ pub returns-in-Some : goal.returns-in-Some
 returns-in-Some g c =
     let k = c.args.self.now in
     let n = kept_by c.outage.result in
-    on_one (kind_of g.M.StateMachine.opening g.M.StateMachine.next g.M.StateMachine.cell) (state_of g.S.Store.meaning g.M.StateMachine.states) (states_of g.S.Store.meaning g.M.StateMachine.states) (vec_items k.servers) (vec_items k.network.messages) c.in-Some.me _ c.index_mut-s.result.now k.three c.place_of.ensures.is c.index_mut-s.ensures.value
+    on_one (kind_of g.M.StateMachine) (state_of g.S.Store) (states_of g.M.StateMachine) (vec_items k.servers) (vec_items k.network.messages) c.in-Some.me _ c.index_mut-s.result.now k.three c.place_of.ensures.is c.index_mut-s.ensures.value
     c.args.server (sym c.in-Some.is ∙ c.server_numbered.ensures) (outage c.args.server n) _ (λ r s. said keeps (outage_answer s n)) (λ r. fails n) _
     (ap (said keeps) c.outage.ensures.says) c.outage.ensures.turns.goes c.outage.ensures.turns.moves refl refl
-    (may_keep_by (kind_of g.M.StateMachine.opening g.M.StateMachine.next g.M.StateMachine.cell) (state_of g.S.Store.meaning g.M.StateMachine.states) (states_of g.S.Store.meaning g.M.StateMachine.states) (vec_items k.servers) (vec_items k.network.messages) c.in-Some.me _ c.index_mut-s.result.now k.three c.place_of.ensures.is c.index_mut-s.ensures.value c.args.server (sym c.in-Some.is ∙ c.server_numbered.ensures) n c.outage.ensures.may)
+    (may_keep_by (kind_of g.M.StateMachine) (state_of g.S.Store) (states_of g.M.StateMachine) (vec_items k.servers) (vec_items k.network.messages) c.in-Some.me _ c.index_mut-s.result.now k.three c.place_of.ensures.is c.index_mut-s.ensures.value c.args.server (sym c.in-Some.is ∙ c.server_numbered.ensures) n c.outage.ensures.may)
