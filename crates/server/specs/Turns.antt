@@ -1,5 +1,5 @@
 -- A turn of one server: it goes as the protocol says, and its machine moves with it.
-use Rattle.std.specs.Prelude.{◌≡◌, ℕ, ◌-◌, min, Bool, cond, not, ◌&&◌, List, [], ◌∷◌, nat_lt}
+use Rattle.std.specs.Prelude.{◌≡◌, ℕ, ◌-◌, min, cond, not, ◌&&◌, List, [], ◌∷◌, nat_lt}
 use Rattle.store.specs.declared.Store.{Ghosts as StoreGhosts}
 use Rattle.machine.specs.declared.state_machine.StateMachine.{Ghosts as MachineGhosts}
 use Rattle.machine.specs.States.{applied, undone_times}
@@ -7,6 +7,10 @@ use Rattle.protocol.specs.State.{Server as State, Machine, at}
 use Rattle.protocol.specs.Rules.{settled_times, moved}
 use Rattle.node.specs.Meaning.{server_of}
 use Rattle.server.specs.declared.Server.{Server}
+use Rattle.server.specs.declared.following.Before.{Before}
+
+abbrev pub before_of : State → Before
+before_of s = record { up = s.up; applied = s.applied; commit = s.commit }
 
 module _ {X : Type 0} (K : Machine X) where
   -- from `was` applied entries to those of s
@@ -15,9 +19,9 @@ module _ {X : Type 0} (K : Machine X) where
       cond (nat_lt was s.applied) (applied K.opening K.next (at s.log was).edit ms) (undone_times (was - s.applied) ms)
 
   -- the protocol's move of a machine, from the three things that it reads of the server before
-  abbrev pub moved_from : Bool → (applied commit : ℕ) → State → List X → List X
-  moved_from up was commit s ms =
-      cond (up && not s.up) (K.opening ∷ []) (settled_times (min s.applied s.commit - min was commit) (advanced was s ms))
+  abbrev pub moved_from : Before → State → List X → List X
+  moved_from b s ms =
+      cond (b.up && not s.up) (K.opening ∷ []) (settled_times (min s.applied s.commit - min b.applied b.commit) (advanced b.applied s ms))
 
 -- what the trait says of a kind of machine
 abbrev pub kind_of : {M : Type 0} → (m : MachineGhosts M) → Machine m.State

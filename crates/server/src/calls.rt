@@ -1,16 +1,17 @@
 // The calls of one server: its node does its work, then its machine follows.
 ghost use Rattle.std.specs.Prelude.{◌≡◌, true, [], ◌∷◌};
+ghost use Rattle.std.specs.Fn.{FnOnceReturnsAtMut};
 ghost use Rattle.refusal.specs.Numbers.{told};
 ghost use Rattle.protocol.specs.declared.ServerId.TheVariants.{One};
 ghost use Rattle.protocol.specs.State.{core_opening};
 ghost use Rattle.protocol.specs.Elections.{caught_up, campaigns};
-ghost use Rattle.protocol.specs.Rules.{hears, replies, proposes, firms, applies_next, fails, restarts};
+ghost use Rattle.protocol.specs.Rules.{hears, replies, proposes, firms, applies_next, fails, restarts, moved};
 ghost use Rattle.protocol.specs.Calls.{propose_answer, firm_answer, apply_answer, outage_answer, restart_answer, standing_answer, look_answer};
 ghost use Rattle.node.specs.Campaigns.{stand_answer};
 ghost use Rattle.server.specs.Turns.{kind_of, state_of, states_of, Turned};
 ghost use Rattle.server.specs.Answers.{told_proposed, request_answer, kept_by, may_keep_at};
 
-use crate::following::follow;
+use crate::following::{Before, follow};
 use crate::{Proposed, Server, steps};
 use machine::StateMachine;
 use node::Node;
@@ -34,17 +35,24 @@ impl<S: Store + Drop, M: StateMachine + Drop> Server<S, M> {
         }
     }
 
+    // The node does its work, and the machine follows.
+    fn turn<R, F: FnOnce(&mut Node<S>) -> R>(&mut self, work: F) -> R
+        requires { F.IsAlwaysCallable work }
+        ensures works { FnOnceReturnsAtMut F.FnOnce work self.old.node result self.new.node }
+        ensures moves { states_of M.StateMachine self.new ≡ moved (kind_of M.StateMachine) (state_of S.Store self.old) (state_of S.Store self.new) (states_of M.StateMachine self.old) }
+    {
+        let before = Before::of(&self.node);
+        let result = work(&mut self.node);
+        follow(&mut self.machine, before, &self.node);
+        result
+    }
+
     // A campaign: the two vote requests.
     pub fn campaign(&mut self, me: ServerId) -> Result<(Message, Message), Refusal>
         ensures says { told result ≡ stand_answer me (state_of S.Store self.old) }
         ensures turns { Turned S.Store M.StateMachine self.old (campaigns me) self.new }
     {
-        let up = self.node.up;
-        let applied = self.node.applied;
-        let commit = self.node.commit;
-        let r = self.node.campaign(me);
-        follow(&mut self.machine, up, applied, commit, &self.node);
-        r
+        self.turn(|node| node.campaign(me))
     }
 
     // A message at its receiver: the message that goes back, if there is one.
@@ -52,36 +60,21 @@ impl<S: Store + Drop, M: StateMachine + Drop> Server<S, M> {
         ensures says { result ≡ replies (caught_up message.term (state_of S.Store self.old)) message.from message.to message.term message.body }
         ensures turns { Turned S.Store M.StateMachine self.old (λ s. hears (caught_up message.term s) message.from message.to message.term message.body) self.new }
     {
-        let up = self.node.up;
-        let applied = self.node.applied;
-        let commit = self.node.commit;
-        let r = steps::hear(&mut self.node, message);
-        follow(&mut self.machine, up, applied, commit, &self.node);
-        r
+        self.turn(|node| steps::hear(node, message))
     }
 
     pub fn propose(&mut self, edit: Edit) -> Result<Proposed, Refusal>
         ensures says { told_proposed result ≡ propose_answer (state_of S.Store self.old) }
         ensures turns { Turned S.Store M.StateMachine self.old (proposes edit) self.new }
     {
-        let up = self.node.up;
-        let applied = self.node.applied;
-        let commit = self.node.commit;
-        let r = steps::propose(&mut self.node, edit);
-        follow(&mut self.machine, up, applied, commit, &self.node);
-        r
+        self.turn(|node| steps::propose(node, edit))
     }
 
     pub fn firm(&mut self, me: ServerId) -> Result<(), Refusal>
         ensures says { told result ≡ firm_answer (state_of S.Store self.old) }
         ensures turns { Turned S.Store M.StateMachine self.old (firms me) self.new }
     {
-        let up = self.node.up;
-        let applied = self.node.applied;
-        let commit = self.node.commit;
-        let r = steps::firm(&mut self.node, me);
-        follow(&mut self.machine, up, applied, commit, &self.node);
-        r
+        self.turn(|node| steps::firm(node, me))
     }
 
     // The append request to another server.
@@ -104,12 +97,7 @@ impl<S: Store + Drop, M: StateMachine + Drop> Server<S, M> {
         ensures says { told result ≡ apply_answer (state_of S.Store self.old) }
         ensures turns { Turned S.Store M.StateMachine self.old applies_next self.new }
     {
-        let up = self.node.up;
-        let applied = self.node.applied;
-        let commit = self.node.commit;
-        let r = steps::apply(&mut self.node);
-        follow(&mut self.machine, up, applied, commit, &self.node);
-        r
+        self.turn(steps::apply)
     }
 
     // Stops the server, and tells how many entries are left.
@@ -118,24 +106,14 @@ impl<S: Store + Drop, M: StateMachine + Drop> Server<S, M> {
         ensures may { may_keep_at (kept_by result) (state_of S.Store self.old) ≡ true }
         ensures turns { Turned S.Store M.StateMachine self.old (fails (kept_by result)) self.new }
     {
-        let up = self.node.up;
-        let applied = self.node.applied;
-        let commit = self.node.commit;
-        let r = steps::stop(&mut self.node, wish);
-        follow(&mut self.machine, up, applied, commit, &self.node);
-        r
+        self.turn(|node| steps::stop(node, wish))
     }
 
     pub fn restart(&mut self) -> Result<(), Refusal>
         ensures says { told result ≡ restart_answer (state_of S.Store self.old) }
         ensures turns { Turned S.Store M.StateMachine self.old restarts self.new }
     {
-        let up = self.node.up;
-        let applied = self.node.applied;
-        let commit = self.node.commit;
-        let r = steps::restart(&mut self.node);
-        follow(&mut self.machine, up, applied, commit, &self.node);
-        r
+        self.turn(steps::restart)
     }
 
     pub fn standing(&self, number: u32, term: u32) -> Result<Standing, Refusal>
@@ -154,9 +132,8 @@ impl<S: Store + Drop, M: StateMachine + Drop> Server<S, M> {
         if !self.node.up {
             return Err(Refusal::ServerDown);
         }
-        match self.machine.read(row, size) {
-            Ok(cell) => Ok(cell),
-            Err(_) => Err(Refusal::NoSuchCell),
-        }
+        self.machine
+            .read(row, size)
+            .map_err(|_| Refusal::NoSuchCell)
     }
 }

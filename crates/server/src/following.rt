@@ -3,13 +3,33 @@ ghost use Rattle.std.specs.Prelude.{◌≡◌};
 ghost use Rattle.protocol.specs.State.{at};
 ghost use Rattle.protocol.specs.Rules.{settled_times};
 ghost use Rattle.node.specs.Meaning.{server_of};
-ghost use Rattle.server.specs.Turns.{kind_of, advanced, moved_from};
+ghost use Rattle.server.specs.Turns.{kind_of, before_of, advanced, moved_from};
 
 use machine::StateMachine;
 use machine::rehearsal::undo_times;
 use node::Node;
 use sheet::Edit;
 use store::Store;
+
+// What its machine goes by of a node as it was.
+#[derive(Clone, Copy, Debug, PartialEq, Eq)]
+pub struct Before {
+    pub up: bool,
+    pub applied: u32,
+    pub commit: u32,
+}
+
+impl Before {
+    pub fn of<S: Store + Drop>(node: &Node<S>) -> Self
+        ensures { result ≡ before_of (server_of S.Store.meaning node.now) }
+    {
+        Before {
+            up: node.up,
+            applied: node.applied,
+            commit: node.commit,
+        }
+    }
+}
 
 // Settles as often as that, as far as there are states to settle.
 fn settle_times<M: StateMachine>(machine: &mut M, times: u32)
@@ -24,16 +44,7 @@ fn settle_times<M: StateMachine>(machine: &mut M, times: u32)
 fn edit_at<S: Store + Drop>(node: &Node<S>, i: u32) -> Edit
     ensures { result ≡ (at (S.Store.meaning node.now.store).entries i).edit }
 {
-    match node.held(i) {
-        Some(entry) => entry.edit,
-        None => Edit {
-            kind: 0,
-            row: 0,
-            size: 0,
-            a: 0,
-            q: 0,
-        },
-    }
+    node.held(i).map(|entry| entry.edit).unwrap_or_default()
 }
 
 // Applies or undoes, from `was` applied entries to those of the node.
@@ -47,21 +58,20 @@ fn advance<S: Store + Drop, M: StateMachine + Drop>(machine: &mut M, was: u32, n
     }
 }
 
-// Moves from what the node was: up or not, its applied and its commit.
+// Moves from what the node was.
 pub fn follow<S: Store + Drop, M: StateMachine + Drop>(
     machine: &mut M,
-    up: bool,
-    applied: u32,
-    commit: u32,
+    before: Before,
     node: &Node<S>,
 )
-    ensures { M.StateMachine.states machine.new ≡ moved_from (kind_of M.StateMachine) up applied commit (server_of S.Store.meaning node.now) (M.StateMachine.states machine.old) }
+    ensures { M.StateMachine.states machine.new ≡ moved_from (kind_of M.StateMachine) before (server_of S.Store.meaning node.now) (M.StateMachine.states machine.old) }
 {
-    if up && !node.up {
+    if before.up && !node.up {
         machine.reset();
         return;
     }
-    advance(machine, applied, node);
+    advance(machine, before.applied, node);
     let decided = node.applied.min(node.commit);
-    settle_times(machine, decided.saturating_sub(applied.min(commit)));
+    let was_decided = before.applied.min(before.commit);
+    settle_times(machine, decided.saturating_sub(was_decided));
 }

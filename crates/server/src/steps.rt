@@ -1,8 +1,8 @@
 // What a message or a call does to a node, its machine apart.
-ghost use Rattle.std.specs.Prelude.{◌≡◌, ◌<◌, true, T, [], ◌∷◌, ◌++◌, length};
+ghost use Rattle.std.specs.Prelude.{◌≡◌, ◌<◌, true, T, [], ◌∷◌, ◌++◌, length, IfOk};
 ghost use Rattle.refusal.specs.Numbers.{told};
 ghost use Rattle.protocol.specs.Elections.{caught_up};
-ghost use Rattle.protocol.specs.Rules.{hears, replies, proposes, firms, openly as openlyAt, few_open, applies, applies_next, fails, restarts, standing_of};
+ghost use Rattle.protocol.specs.Rules.{hears, replies, proposes, firms, openly, few_open, applies, applies_next, fails, restarts, standing_of};
 ghost use Rattle.protocol.specs.Calls.{propose_answer, firm_answer, apply_answer, outage_answer, restart_answer};
 ghost use Rattle.node.specs.Meaning.{server_of, Goes};
 ghost use Rattle.server.specs.Answers.{told_proposed, kept_by, may_keep_at};
@@ -35,14 +35,9 @@ pub fn hear<S: Store + Drop>(node: &mut Node<S>, message: Message) -> Option<Mes
             node.hear_vote_reply(message.from, message.term, ok);
             None
         }
-        Body::AppendRequest {
-            previous,
-            previous_term,
-            commit,
-            entry,
-        } => hear_append(node, message, previous, previous_term, commit, entry),
-        Body::AppendReply(ok, agreed) => {
-            hear_reply(node, message, ok, agreed);
+        Body::AppendRequest(append) => hear_append(node, message, append),
+        Body::AppendReply(agreed) => {
+            hear_reply(node, message, agreed);
             None
         }
     }
@@ -89,7 +84,7 @@ pub fn firm<S: Store + Drop>(node: &mut Node<S>, me: ServerId) -> Result<(), Ref
 
 // Whether the next entry may be applied openly, room apart.
 fn openly<S: Store + Drop>(node: &Node<S>) -> bool
-    ensures is { result ≡ openlyAt (server_of S.Store.meaning node.now) }
+    ensures is { result ≡ openly (server_of S.Store.meaning node.now) }
     ensures few { T result → node.now.applied < 64 }
 {
     0 < node.commit && (node.tip(node.commit) == node.store.term() && node.applied < node.len())
@@ -98,26 +93,18 @@ fn openly<S: Store + Drop>(node: &Node<S>) -> bool
 fn few_open<S: Store + Drop>(node: &Node<S>) -> bool
     ensures { result ≡ few_open (server_of S.Store.meaning node.now) }
 {
-    (node.applied as u64) < node.commit as u64 + 16
+    node.applied.saturating_sub(node.commit) < 16
 }
 
-fn apply_one<S: Store + Drop>(node: &mut Node<S>)
-    requires { node.old.applied < 4294967295 }
-    ensures { Goes S.Store.meaning node.old applies node.new }
-{
-    node.applied += 1;
-}
-
-// Applies the next entry, below commit or openly.
-pub fn apply<S: Store + Drop>(node: &mut Node<S>) -> Result<(), Refusal>
-    ensures says { told result ≡ apply_answer (server_of S.Store.meaning node.old) }
-    ensures after { Goes S.Store.meaning node.old applies_next node.new }
+// Whether the next entry may be applied, below commit or openly, or why not.
+fn may_apply<S: Store + Drop>(node: &Node<S>) -> Result<(), Refusal>
+    ensures says { told result ≡ apply_answer (server_of S.Store.meaning node.now) }
+    ensures few { IfOk result (λ _. node.now.applied < 4294967295) }
 {
     if !node.up {
         return Err(Refusal::ServerDown);
     }
     if node.applied < node.commit {
-        apply_one(node);
         return Ok(());
     }
     if !openly(node) {
@@ -126,7 +113,16 @@ pub fn apply<S: Store + Drop>(node: &mut Node<S>) -> Result<(), Refusal>
     if !few_open(node) {
         return Err(Refusal::TooManyOpen);
     }
-    apply_one(node);
+    Ok(())
+}
+
+// Applies the next entry.
+pub fn apply<S: Store + Drop>(node: &mut Node<S>) -> Result<(), Refusal>
+    ensures says { told result ≡ apply_answer (server_of S.Store.meaning node.old) }
+    ensures after { Goes S.Store.meaning node.old applies_next node.new }
+{
+    may_apply(node)?;
+    node.applied += 1;
     Ok(())
 }
 
@@ -163,10 +159,11 @@ pub fn standing_of<S: Store + Drop>(node: &Node<S>, number: u32, term: u32) -> S
     ensures { result ≡ standing_of (server_of S.Store.meaning node.now) number term }
 {
     let own = node.tip(number) == term;
-    if 0 < number && number <= node.commit {
-        return if own { Standing::Kept } else { Standing::Gone };
-    }
-    if 0 < number && (number <= node.len() && own) {
+    if number == 0 {
+        Standing::Unknown
+    } else if number <= node.commit {
+        if own { Standing::Kept } else { Standing::Gone }
+    } else if own && number <= node.len() {
         Standing::Open
     } else {
         Standing::Unknown
