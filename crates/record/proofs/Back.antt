@@ -69,10 +69,10 @@ determined bs off (Ok p) (Ok q) hp hq ep eq =
     λ i. Ok (u.0 i, u.1 i)
 determined bs off (Ok p) (Err e) hp hq ep eq =
     let z : None ≡ Some e = sym (never_refused p.0 p.1 off) ∙ ap (fault_at off) (sym ep) ∙ eq in
-    let b : ◌≡◌ {A = ℕ} 0 1 = cc in absurd (omega arith)
+    cc
 determined bs off (Err e) (Ok p) hp hq ep eq =
     let z : None ≡ Some e = sym (never_refused p.0 p.1 off) ∙ ap (fault_at off) (sym eq) ∙ ep in
-    let b : ◌≡◌ {A = ℕ} 0 1 = cc in absurd (omega arith)
+    cc
 determined bs off (Err d) (Err e) hp hq ep eq =
     let z : ◌≡◌ {A = Option RecordFault} (Some d) (Some e) = sym ep ∙ eq in
     let s : d ≡ e = cc in

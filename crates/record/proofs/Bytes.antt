@@ -57,7 +57,7 @@ Bytes bs = (i : ℕ) → Fits w8 (get_or bs i 0)
 byte : (n : ℕ) → Fits w8 n → n < 256
 byte n f = omega arith
 
-bytes_drop : (k : ℕ) (bs : List ℕ) → Bytes bs → Bytes (drop k bs)
+pub bytes_drop : (k : ℕ) (bs : List ℕ) → Bytes bs → Bytes (drop k bs)
 bytes_drop k bs f i = subst (Fits w8) (sym (get_or-drop k bs i 0)) (f (k + i))
 
 -- the number that stands at a place
@@ -127,9 +127,6 @@ edit_law bs k row size a q h f pk pr ps pa pq =
 
 pub entry_law : (bs edit : List ℕ) (t : ℕ) → 4 ≤ length bs → Bytes bs → t ≡ quad_at bs 0 → take (length bs - 4) (drop 4 bs) ≡ edit → bs ≡ four t ++ edit
 entry_law bs edit t h f p e = four_at_bytes bs f 0 t h p ∙ ap (λ l. four t ++ l) (sym (rest_is bs 4) ∙ e)
-
-pub rest_length : (bs : List ℕ) (k : ℕ) → length (take (length bs - k) (drop k bs)) ≡ length bs - k
-rest_length bs k = ap length (rest_is bs k) ∙ length-drop k bs
 
 -- a signed value shows as `to_z w32 (of_z w32 z)` where it was stored
 pub stored : (z : ℤ) → SFits w32 z → four (of_z w32 (to_z w32 (of_z w32 z))) ≡ word z

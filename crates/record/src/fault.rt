@@ -1,7 +1,9 @@
 // Why a record is refused: the fault of each reader carries the one below whole.
-ghost use Rattle.std.specs.Prelude.{◌≡◌};
-ghost use Rattle.record.specs.Faults.{number_of, offset_of, reader_of};
+ghost use Rattle.std.specs.Prelude.{◌≡◌, Some};
+ghost use Rattle.record.specs.Faults.{number_of, offset_of, reader_of, name_of};
 ghost use Rattle.record.specs.declared.fault.RecordFault.TheVariants.{Field as InField};
+
+use std::fmt;
 
 // Fewer bytes than the head of the record at `offset` needs, or than its length needs.
 #[derive(Clone, Copy, Debug, PartialEq, Eq)]
@@ -25,6 +27,19 @@ pub enum Reader {
     Image,
 }
 
+impl fmt::Display for Reader {
+    ghost output = { λ r. Some (name_of r) };
+
+    fn fmt<W: fmt::Write>(&self, f: &mut fmt::Formatter<W>) -> fmt::Result {
+        f.write_str(match self {
+            Reader::Field => "field",
+            Reader::Record => "record",
+            Reader::Image => "image",
+        })
+    }
+}
+
+// Kept: by hand and not by thiserror's derive, since `from_gives` is what `?` tells a contract.
 impl From<FieldFault> for RecordFault {
     ghost from_gives = { λ e r. r ≡ InField e };
 
@@ -34,13 +49,14 @@ impl From<FieldFault> for RecordFault {
 }
 
 impl RecordFault {
+    // Kept: a variant with fields has no number of its own, so the format's numbers stand here.
     pub fn number(self) -> u8
         ensures { result ≡ number_of self }
     {
         match self {
             RecordFault::Field(_) => 21,
-            RecordFault::WrongLength { offset: _ } => 22,
-            RecordFault::UnknownKind { offset: _ } => 23,
+            RecordFault::WrongLength { .. } => 22,
+            RecordFault::UnknownKind { .. } => 23,
         }
     }
 
@@ -50,8 +66,7 @@ impl RecordFault {
     {
         match self {
             RecordFault::Field(below) => below.offset,
-            RecordFault::WrongLength { offset } => offset,
-            RecordFault::UnknownKind { offset } => offset,
+            RecordFault::WrongLength { offset } | RecordFault::UnknownKind { offset } => offset,
         }
     }
 
@@ -60,8 +75,7 @@ impl RecordFault {
     {
         match self {
             RecordFault::Field(_) => Reader::Field,
-            RecordFault::WrongLength { offset: _ } => Reader::Record,
-            RecordFault::UnknownKind { offset: _ } => Reader::Record,
+            RecordFault::WrongLength { .. } | RecordFault::UnknownKind { .. } => Reader::Record,
         }
     }
 }

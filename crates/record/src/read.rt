@@ -1,7 +1,7 @@
 // Reading a record: its four head bytes, as many bytes of fields as its length says, and what follows.
-ghost use Rattle.std.specs.Prelude.{◌≡◌, length, MatchOption, ◌≢◌};
-ghost use Rattle.record.specs.Format.{edit_fields, RecordRead, ReadsBack, answered};
-ghost use Rattle.record.specs.Parts.{HeadTaken, FieldsTaken, BallotRead, EntryRead};
+ghost use Rattle.std.specs.Prelude.{◌≡◌, ◌<◌, length, MatchOption, ◌≢◌};
+ghost use Rattle.record.specs.Format.{ballot_fields, edit_fields, entry_fields, RecordRead, ReadsBack, answered};
+ghost use Rattle.record.specs.Parts.{HeadOf};
 
 use crate::entry::Entry;
 use crate::fault::{FieldFault, RecordFault};
@@ -15,37 +15,28 @@ struct Head<'a> {
     rest: &'a [u8],
 }
 
-fn take_head(bytes: &[u8], offset: usize) -> Result<Head<'_>, FieldFault>
-    ensures { HeadTaken bytes.now offset result }
+// Nothing where there are fewer than its four bytes.
+fn take_head(bytes: &[u8]) -> Option<Head<'_>>
+    ensures { MatchOption result (length bytes.now < 4) (HeadOf bytes.now) }
 {
     let [l0, l1, k0, k1, rest @ ..] = bytes else {
-        return Err(FieldFault { offset });
+        return None;
     };
     let length = u16::from_le_bytes([*l0, *l1]);
     let kind = u16::from_le_bytes([*k0, *k1]);
-    Ok(Head { length, kind, rest })
+    Some(Head { length, kind, rest })
 }
 
-// The fields, as many bytes as the length says, and what follows.
-fn take_fields(rest: &[u8], length: u16, offset: usize) -> Result<(&[u8], &[u8]), FieldFault>
-    ensures { FieldsTaken rest.now length offset result }
-{
-    let length = length as usize;
-    if rest.len() < length {
-        return Err(FieldFault { offset });
-    }
-    Ok(rest.split_at(length))
-}
-
-fn read_ballot(fields: &[u8], offset: usize) -> Result<Ballot, RecordFault>
-    ensures { BallotRead fields.now offset result }
+// A term and a vote; nothing where that is another number of bytes.
+fn read_ballot(fields: &[u8]) -> Option<Ballot>
+    ensures { MatchOption result (length fields.now ≢ 6) (λ b. fields.now ≡ ballot_fields b) }
 {
     let [t0, t1, t2, t3, v0, v1] = fields else {
-        return Err(RecordFault::WrongLength { offset });
+        return None;
     };
     let term = u32::from_le_bytes([*t0, *t1, *t2, *t3]);
     let vote = u16::from_le_bytes([*v0, *v1]);
-    Ok(Ballot { term, vote })
+    Some(Ballot { term, vote })
 }
 
 // The kind of an edit and its four words; nothing where that is another number of bytes.
@@ -84,17 +75,16 @@ fn read_edit(fields: &[u8]) -> Option<Edit>
     })
 }
 
-fn read_entry(fields: &[u8], offset: usize) -> Result<Entry, RecordFault>
-    ensures { EntryRead fields.now offset result }
+// A term and an edit; nothing where that is another number of bytes.
+fn read_entry(fields: &[u8]) -> Option<Entry>
+    ensures { MatchOption result (length fields.now ≢ 22) (λ e. fields.now ≡ entry_fields e) }
 {
     let [t0, t1, t2, t3, rest @ ..] = fields else {
-        return Err(RecordFault::WrongLength { offset });
+        return None;
     };
-    let Some(edit) = read_edit(rest) else {
-        return Err(RecordFault::WrongLength { offset });
-    };
+    let edit = read_edit(rest)?;
     let term = u32::from_le_bytes([*t0, *t1, *t2, *t3]);
-    Ok(Entry { term, edit })
+    Some(Entry { term, edit })
 }
 
 // The record at the front of the bytes, and the bytes behind it. `offset` is where the record begins in the whole.
@@ -102,11 +92,21 @@ pub fn read_record(bytes: &[u8], offset: usize) -> Result<(Record, &[u8]), Recor
     ensures answer { RecordRead bytes.now offset (answered result) }
     ensures back { ReadsBack bytes.now (answered result) }
 {
-    let Head { length, kind, rest } = take_head(bytes, offset)?;
-    let (fields, rest) = take_fields(rest, length, offset)?;
+    let Head { length, kind, rest } = take_head(bytes).ok_or(FieldFault { offset })?;
+    let (fields, rest) = rest
+        .split_at_checked(length as usize)
+        .ok_or(FieldFault { offset })?;
+    let wrong_length = RecordFault::WrongLength { offset };
+    // Kept: the format's numbers of its two kinds; Record is their enum, and another one would be matched again right here.
     match kind {
-        1 => Ok((Record::Opening(read_ballot(fields, offset)?), rest)),
-        2 => Ok((Record::Logged(read_entry(fields, offset)?), rest)),
+        1 => Ok((
+            Record::Opening(read_ballot(fields).ok_or(wrong_length)?),
+            rest,
+        )),
+        2 => Ok((
+            Record::Logged(read_entry(fields).ok_or(wrong_length)?),
+            rest,
+        )),
         _ => Err(RecordFault::UnknownKind { offset }),
     }
 }
