@@ -1,54 +1,18 @@
 -- Numbers in bytes and back.
-use Rattle.std.proofs.Common.{◌≡◌, ℕ, ◌+◌, ◌-◌, ◌*◌, ◌/◌, ◌%◌, ◌^◌, ◌<◌, ◌≤◌, List, [], ◌∷◌, ◌++◌, length, get_or, take, drop, ℤ, sym, ap, ◌∙◌, subst, append-nil, arith, length-drop, get_or-drop, w8, w32, Fits, SFits, to_z, of_z}
-use native.Mathlib.Nat.{div-div-eq-div-mul}
-use Rattle.std.proofs.lemmas.List.{drop-drop, nil_from_length}
+use Rattle.std.proofs.Common.{inl, inr, refl, ◌≡◌, ℕ, ◌+◌, ◌-◌, ◌*◌, ◌/◌, ◌%◌, ◌^◌, ◌<◌, ◌≤◌, List, [], ◌∷◌, ◌++◌, length, get_or, take, drop, ℤ, sym, ap, ◌∙◌, subst, append-nil, arith, length-drop, get_or-drop, w8, w32, Fits, SFits, to_z, of_z}
+use Rattle.std.proofs.lemmas.List.{drop-drop, get_or-take, get_or_past, length-take, nil_from_length}
+use Rattle.std.proofs.lemmas.Bool.{cases_lt}
 use Rattle.std.proofs.lemmas.Int.{of_z-to_z, to_z-of_z}
 use Rattle.std.proofs.lemmas.Slice.{between_to_end}
-use Rattle.std.proofs.lemmas.Nat.{mod-mul-add, div-mul-add, div-add-mod', div_below}
+use Rattle.std.proofs.lemmas.Nat.{from_le_bytes-to_le_bytes_2, from_le_bytes-to_le_bytes_4, le_bytes_2, le_bytes_4}
 use Rattle.record.specs.Format.{two, four, word}
 
--- one digit off: m is b * 256 + a
-low : (m a b : ℕ) → m ≡ b * 256 + a → a < 256 → m % 256 ≡ a
-low m a b e h = ap (λ n. n % 256) e ∙ mod-mul-add b 256 a h
-
-high : (m a b : ℕ) → m ≡ b * 256 + a → a < 256 → m / 256 ≡ b
-high m a b e h = ap (λ n. n / 256) e ∙ div-mul-add b 256 a h
-
-two_of_them : (a b : ℕ) → a < 256 → b < 256 → two (a + b * 256) ≡ a ∷ b ∷ []
-unfolding two
-two_of_them a b ha hb =
-    let p : (a + b * 256) % 256 ≡ a = low (a + b * 256) a b (omega arith) ha in
-    let q : (a + b * 256) / 256 % 256 ≡ b = low ((a + b * 256) / 256) b 0 (high (a + b * 256) a b (omega arith) ha ∙ omega arith) hb in
-    λ i. p i ∷ q i ∷ []
-
-four_of : (a b c d : ℕ) → a < 256 → b < 256 → c < 256 → d < 256 → four (a + b * 256 + c * 65536 + d * 16777216) ≡ a ∷ b ∷ c ∷ d ∷ []
-unfolding four
-four_of a b c d ha hb hc hd =
-    let n : ℕ = a + b * 256 + c * 65536 + d * 16777216 in
-    let h1 : n / 256 ≡ (d * 256 + c) * 256 + b = high n a ((d * 256 + c) * 256 + b) (omega arith) ha in
-    let h2 : n / 65536 ≡ d * 256 + c = sym (div-div-eq-div-mul n 256 256) ∙ high (n / 256) b (d * 256 + c) h1 hb in
-    let h3 : n / 16777216 ≡ d = sym (div-div-eq-div-mul n 65536 256) ∙ high (n / 65536) c d h2 hc in
-    let p : n % 256 ≡ a = low n a ((d * 256 + c) * 256 + b) (omega arith) ha in
-    let q : n / 256 % 256 ≡ b = low (n / 256) b (d * 256 + c) h1 hb in
-    let r : n / 65536 % 256 ≡ c = low (n / 65536) c d h2 hc in
-    let s : n / 16777216 % 256 ≡ d = low (n / 16777216) d 0 (h3 ∙ omega arith) hd in
-    λ i. p i ∷ q i ∷ r i ∷ s i ∷ []
-
--- back: what the bytes of a number say
+-- what the bytes of a number say
 pub of_two : (n : ℕ) → n < 2 ^ 16 → n % 256 + n / 256 % 256 * 256 ≡ n
-of_two n h = omega arith
+of_two n h = from_le_bytes-to_le_bytes_2 n h
 
 pub of_four : (n : ℕ) → n < 2 ^ 32 → n % 256 + n / 256 % 256 * 256 + n / 65536 % 256 * 65536 + n / 16777216 % 256 * 16777216 ≡ n
-of_four n h =
-    let e2 : n / 65536 ≡ n / 256 / 256 = sym (div-div-eq-div-mul n 256 256) in
-    let e3 : n / 16777216 ≡ n / 256 / 256 / 256 = sym (div-div-eq-div-mul n 65536 256) ∙ ap (λ m. m / 256) e2 in
-    let d1 = div-add-mod' n 256 in
-    let d2 = div-add-mod' (n / 256) 256 in
-    let d3 = div-add-mod' (n / 256 / 256) 256 in
-    let d4 : n / 16777216 < 256 = div_below n 16777216 256 (omega arith) (omega arith) in
-    let d5 : n / 16777216 % 256 ≡ n / 16777216 = low (n / 16777216) (n / 16777216) 0 (omega arith) d4 in
-    let f2 : n / 65536 % 256 ≡ n / 256 / 256 % 256 = ap (λ m. m % 256) e2 in
-    omega (arith, d1, d2, d3, e3, d5, f2)
+of_four n h = from_le_bytes-to_le_bytes_4 n h
 
 -- every element is a byte
 abbrev pub Bytes : List ℕ → Type 0
@@ -56,6 +20,13 @@ Bytes bs = (i : ℕ) → Fits w8 (get_or bs i 0)
 
 byte : (n : ℕ) → Fits w8 n → n < 256
 byte n f = omega arith
+
+pub bytes_take : (n : ℕ) (bs : List ℕ) → Bytes bs → Bytes (take n bs)
+bytes_take n bs f i =
+    elim (cases_lt i n) [
+      | inl h ↦ subst (Fits w8) (sym (get_or-take n bs i 0 h)) (f i)
+      | inr h ↦ subst (Fits w8) (sym (get_or_past (take n bs) i 0 (omega (arith, length-take n bs)))) (omega arith)
+    ]
 
 pub bytes_drop : (k : ℕ) (bs : List ℕ) → Bytes bs → Bytes (drop k bs)
 bytes_drop k bs f i = subst (Fits w8) (sym (get_or-drop k bs i 0)) (f (k + i))
@@ -68,16 +39,18 @@ abbrev pub quad_at : List ℕ → ℕ → ℕ
 quad_at bs k = get_or bs (k + 0) 0 + get_or bs (k + 1) 0 * 256 + get_or bs (k + 2) 0 * 65536 + get_or bs (k + 3) 0 * 16777216
 
 front_two : (bs : List ℕ) → 2 ≤ length bs → Bytes bs → bs ≡ two (pair_at bs 0) ++ drop 2 bs
+unfolding two
 front_two [] h f = absurd (omega arith)
 front_two (a ∷ []) h f = absurd (omega arith)
-front_two (a ∷ b ∷ bs) h f = sym (ap (λ l. l ++ bs) (two_of_them a b (byte a (f 0)) (byte b (f 1))))
+front_two (a ∷ b ∷ bs) h f = sym (ap (λ l. l ++ bs) (le_bytes_2 (a ∷ b ∷ []) (pair_at (a ∷ b ∷ bs) 0) refl (λ i. byte _ (bytes_take 2 (a ∷ b ∷ bs) f i)) refl))
 
 front_four : (bs : List ℕ) → 4 ≤ length bs → Bytes bs → bs ≡ four (quad_at bs 0) ++ drop 4 bs
+unfolding four
 front_four [] h f = absurd (omega arith)
 front_four (a ∷ []) h f = absurd (omega arith)
 front_four (a ∷ b ∷ []) h f = absurd (omega arith)
 front_four (a ∷ b ∷ c ∷ []) h f = absurd (omega arith)
-front_four (a ∷ b ∷ c ∷ d ∷ bs) h f = sym (ap (λ l. l ++ bs) (four_of a b c d (byte a (f 0)) (byte b (f 1)) (byte c (f 2)) (byte d (f 3))))
+front_four (a ∷ b ∷ c ∷ d ∷ bs) h f = sym (ap (λ l. l ++ bs) (le_bytes_4 (a ∷ b ∷ c ∷ d ∷ []) (quad_at (a ∷ b ∷ c ∷ d ∷ bs) 0) refl (λ i. byte _ (bytes_take 4 (a ∷ b ∷ c ∷ d ∷ bs) f i)) refl))
 
 module _ (bs : List ℕ) (f : Bytes bs) (k : ℕ) where
   at : (i : ℕ) → get_or (drop k bs) i 0 ≡ get_or bs (k + i) 0
