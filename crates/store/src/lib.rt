@@ -1,13 +1,14 @@
 // What a server remembers: a term, a vote, and entries of which the first are durable.
 #![tactic(auto)]
 
-ghost use Rattle.std.specs.Prelude.{◌≡◌, length};
+ghost use Rattle.std.specs.Prelude.{◌≡◌, length, IfOk};
 ghost use Rattle.refusal.specs.Numbers.{told};
 ghost use Rattle.store.specs.Stores.{StoreState, Sound, Crashed};
 ghost use Rattle.store.specs.Stores.{cleared, voted, append_answer, appended, truncate_answer, truncated, synced, entry_answer};
 
 use record::Entry;
 use refusal::Refusal;
+use std::alloc::{AllocError, Global};
 
 pub mod record_store;
 
@@ -63,7 +64,14 @@ pub trait Store {
     ghost sound: { (s : Self) → Sound (meaning s) };
 }
 
+// What makes a store that holds nothing.
+pub trait OpensEmpty: Store + Sized {
+    fn open_empty(heap: Global) -> Result<Self, AllocError>
+        ensures { IfOk result (λ s. Self.meaning s ≡ cleared) };
+}
+
 // After a sync no crash loses anything, whatever the store.
+#[tactic(auto, using(crate::proofs::Crashes::synced_crash))]
 pub fn sync_then_crash<S: Store>(store: &mut S, wish: usize) -> usize
     ensures all { result ≡ length (S.meaning store.old).entries }
     ensures after { S.meaning store.new ≡ synced (S.meaning store.old) }

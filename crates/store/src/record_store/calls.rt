@@ -5,7 +5,7 @@ ghost use Rattle.store.specs.Records.{recorded};
 ghost use Rattle.std.proofs.Common.{rules, arith};
 
 use super::RecordStore;
-use crate::{MAX_ENTRIES, Store};
+use crate::{MAX_ENTRIES, OpensEmpty, Store};
 use record::Entry;
 use refusal::Refusal;
 use std::alloc::{AllocError, Global};
@@ -21,6 +21,12 @@ impl RecordStore {
             durable: 0,
             entries,
         })
+    }
+}
+
+impl OpensEmpty for RecordStore {
+    fn open_empty(heap: Global) -> Result<Self, AllocError> {
+        RecordStore::open(heap)
     }
 }
 
@@ -68,10 +74,9 @@ impl Store for RecordStore {
         ensures exact { result ≡ kept_by wish (recorded self.old) }
     {
         let volatile = self.entries.len() - self.durable;
-        let kept = self.durable + wish.min(volatile);
-        self.durable = kept;
-        self.entries.truncate(kept);
-        kept
+        self.durable += wish.min(volatile);
+        self.entries.truncate(self.durable);
+        self.durable
     }
 
     fn term(&self) -> u32 {
@@ -91,10 +96,8 @@ impl Store for RecordStore {
     }
 
     fn entry(&self, n: usize) -> Result<Entry, Refusal> {
-        if n >= 1 && n <= self.entries.len() {
-            Ok(self.entries[n - 1])
-        } else {
-            Err(Refusal::OutOfBounds)
-        }
+        n.checked_sub(1)
+            .and_then(|place| self.entries.get(place).copied())
+            .ok_or(Refusal::OutOfBounds)
     }
 }
