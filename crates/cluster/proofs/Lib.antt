@@ -4,4 +4,3 @@ pub mod Networks
 pub mod Campaigns
 pub mod Sends
 pub mod Deliveries
-pub mod Statuses

@@ -1,32 +1,41 @@
 -- The three servers: by number, and at their places in a list.
-use Rattle.std.proofs.Common.{◌≡◌, ℕ, ◌<◌, Bool, true, false, cond, eqb, List, length, set, Some, None, sym, refl, ap, arith}
+use Rattle.std.proofs.Common.{◌≡◌, ℕ, ◌<◌, Bool, true, false, cond, eqb, List, length, set, Ok, Err, Result, sym, refl, ap, arith}
 use mathlib.Core.Path.{fun_ext}
 use Rattle.std.proofs.lemmas.List.{get_or-set_same, get_or-set_other}
+use Rattle.refusal.specs.declared.Refusal.{Refusal}
+use Rattle.refusal.specs.declared.Refusal.TheVariants.{NoSuchServer}
 use Rattle.protocol.specs.declared.ServerId.{ServerId}
 use Rattle.protocol.specs.declared.ServerId.TheVariants.{One, Two, Three}
 use Rattle.protocol.specs.ServerIds.{numbered, put}
 use Rattle.protocol.proofs.Shelf.{put_all}
 use Rattle.node.specs.Meaning.{place, of3}
 
+-- The server with a number, as the code finds it.
+abbrev pub Found : ℕ → Result ServerId Refusal → Type 0
+Found n r = r ≡ numbered n Ok (Err NoSuchServer)
+
 pick : {B : Type 0} (a b c : Bool) (j : ServerId) (f : ServerId → B) (d : B)
-    → Some j ≡ cond a (Some One) (cond b (Some Two) (cond c (Some Three) None)) → cond a (f One) (cond b (f Two) (cond c (f Three) d)) ≡ f j
+    → Ok j ≡ cond a (Ok One) (cond b (Ok Two) (cond c (Ok Three) (Err NoSuchServer))) → cond a (f One) (cond b (f Two) (cond c (f Three) d)) ≡ f j
 pick true b c j f d h = let e : One ≡ j = cc in ap f e
 pick false true c j f d h = let e : Two ≡ j = cc in ap f e
 pick false false true j f d h = let e : Three ≡ j = cc in ap f e
 pick false false false j f d h = cc
 
-miss : {B : Type 0} (a b c : Bool) (f : ServerId → B) (d : B)
-    → None ≡ cond a (Some One) (cond b (Some Two) (cond c (Some Three) None)) → cond a (f One) (cond b (f Two) (cond c (f Three) d)) ≡ d
-miss true b c f d h = cc
-miss false true c f d h = cc
-miss false false true f d h = cc
-miss false false false f d h = refl
+miss : {B : Type 0} (a b c : Bool) (e : Refusal) (f : ServerId → B) (d : B)
+    → Err e ≡ cond a (Ok One) (cond b (Ok Two) (cond c (Ok Three) (Err NoSuchServer))) → (cond a (f One) (cond b (f Two) (cond c (f Three) d)) ≡ d) × (e ≡ NoSuchServer)
+miss true b c e f d h = (cc, cc)
+miss false true c e f d h = (cc, cc)
+miss false false true e f d h = (cc, cc)
+miss false false false e f d h = (refl, cc)
 
-pub numbered_some : {B : Type 0} (n : ℕ) (j : ServerId) (f : ServerId → B) (d : B) → Some j ≡ numbered n Some None → numbered n f d ≡ f j
+pub numbered_some : {B : Type 0} (n : ℕ) (j : ServerId) (f : ServerId → B) (d : B) → Found n (Ok j) → numbered n f d ≡ f j
 numbered_some n j f d h = pick (eqb n 1) (eqb n 2) (eqb n 3) j f d h
 
-pub numbered_none : {B : Type 0} (n : ℕ) (f : ServerId → B) (d : B) → None ≡ numbered n Some None → numbered n f d ≡ d
-numbered_none n f d h = miss (eqb n 1) (eqb n 2) (eqb n 3) f d h
+pub numbered_none : {B : Type 0} (n : ℕ) (e : Refusal) (f : ServerId → B) (d : B) → Found n (Err e) → numbered n f d ≡ d
+numbered_none n e f d h = (miss (eqb n 1) (eqb n 2) (eqb n 3) e f d h).0
+
+pub not_found : (n : ℕ) (e : Refusal) → Found n (Err e) → e ≡ NoSuchServer
+not_found n e h = (miss (eqb n 1) (eqb n 2) (eqb n 3) e (λ j. j) One h).1
 
 place_apart : (i j : ServerId) → (i ≡ j → ⊥) → place i ≡ place j → ⊥
 place_apart One One n e = n refl

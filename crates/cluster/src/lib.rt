@@ -7,6 +7,6 @@ mod reads;
 pub mod state;
 mod tickets;
 
-pub use reads::Status;
+pub use protocol::Status;
 pub use server::{Outcome, Proposed, Ticket, Unclosed};
 pub use state::Cluster;

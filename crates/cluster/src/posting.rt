@@ -7,36 +7,26 @@ use crate::state::Network;
 use protocol::Message;
 
 impl Network {
-    pub(crate) fn has(&self, position: u32) -> bool
-        ensures { result ≡ has_message position self.now.messages.items }
-    {
-        0 < position && position as usize <= self.messages.len()
-    }
-
     pub(crate) fn message_at(&self, position: u32) -> Option<Message>
         ensures { result ≡ (if has_message position self.now.messages.items then Some (message_at position self.now.messages.items) else None) }
     {
-        if 0 < position && position as usize <= self.messages.len() {
-            Some(self.messages[position as usize - 1])
-        } else {
-            None
-        }
+        let before = position.checked_sub(1)?;
+        self.messages.get(before as usize).copied()
+    }
+
+    pub(crate) fn has(&self, position: u32) -> bool
+        ensures { result ≡ has_message position self.now.messages.items }
+    {
+        self.message_at(position).is_some()
     }
 
     // Takes out the message at a position, unless it is kept or there is none.
     pub(crate) fn take_out(&mut self, position: u32, keep: bool)
         ensures { self.new.messages.items ≡ left keep position self.old.messages.items }
     {
-        if keep {
-            return;
+        if !keep && self.has(position) {
+            let _ = self.messages.remove(position as usize - 1);
         }
-        if position == 0 {
-            return;
-        }
-        if position as usize > self.messages.len() {
-            return;
-        }
-        let _ = self.messages.remove(position as usize - 1);
     }
 
     // Posts a message where there is room, and tells how many were lost.
@@ -57,6 +47,7 @@ impl Network {
         ensures messages { self.new.messages.items ≡ joined_some self.old.messages.items message }
         ensures lost { result ≡ lost_some self.old.messages.items message }
     {
+        // Kept: after `map_or` the proof knows nothing of what its closure changed in the network.
         match message {
             None => 0,
             Some(message) => self.post(message),

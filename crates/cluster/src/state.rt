@@ -13,6 +13,7 @@ pub struct Network {
     ghost room: { (length messages.items ≤ 24) × (24 ≤ vec_capacity messages) },
 }
 
+// Kept: three servers stand in a Vec, since an array of a type parameter owes each caller a bound on its size.
 #[derive(Drop)]
 pub struct Cluster<S: Store + Drop, M: StateMachine + Drop> {
     pub(crate) servers: Vec<Server<S, M>>,

@@ -1,5 +1,6 @@
 -- What the calls at one server answer.
 use Rattle.std.specs.Prelude.{ℕ, Bool, cond, not, ◌||◌, Ok, Err, Result}
+use Rattle.std.specs.Result.{result_map_both}
 use Rattle.refusal.specs.declared.Refusal.{Refusal}
 use Rattle.refusal.specs.Numbers.{number_of}
 use Rattle.protocol.specs.declared.ServerId.{ServerId}
@@ -11,9 +12,11 @@ use Rattle.protocol.specs.Rules.{may_keep}
 use Rattle.server.specs.declared.Proposed.{Proposed}
 
 -- a proposal's number and term, or the number of its refusal
+abbrev pub pair_of : Proposed → ℕ × ℕ
+pair_of p = (p.number, p.term)
+
 abbrev pub told_proposed : Result Proposed Refusal → Result (ℕ × ℕ) ℕ
-told_proposed (Ok p) = Ok (p.number, p.term)
-told_proposed (Err e) = Err (number_of e)
+told_proposed = result_map_both pair_of number_of
 
 -- The append request of a leader to another.
 abbrev pub request_answer : ServerId → ServerId → State → Result Message ℕ

@@ -20,7 +20,7 @@ pub struct Server<S: Store + Drop, M: StateMachine + Drop> {
 }
 
 // What a proposal is known by: the number and the term of its entry.
-#[derive(Clone, Copy)]
+#[derive(Clone, Copy, Debug, PartialEq, Eq)]
 pub struct Proposed {
     pub number: u32,
     pub term: u32,

@@ -2,39 +2,14 @@
 ghost use Rattle.std.specs.Prelude.{◌≡◌};
 ghost use Rattle.protocol.specs.Rules.{proposes};
 ghost use Rattle.protocol.specs.Calls.{propose_answer, close_answer};
-ghost use Rattle.node.specs.Meaning.{server_of};
-ghost use Rattle.server.specs.Turns.{kind_of, state_of, Turned};
-ghost use Rattle.server.specs.Tickets.{told_ticket, told_closed, HandsBack};
+ghost use Rattle.server.specs.Turns.{state_of, Turned};
+ghost use Rattle.server.specs.Tickets.{told_ticket, told_outcome, told_closed, HandsBack};
 
-use crate::steps::standing_of;
 use crate::{Outcome, Server, Ticket, Unclosed};
 use machine::StateMachine;
-use node::Node;
-use protocol::Standing;
 use refusal::Refusal;
 use sheet::Edit;
 use store::Store;
-
-// Closes a ticket whose outcome the node can tell, or hands it back.
-fn close_at<S: Store + Drop>(node: &Node<S>, ticket: Ticket) -> Result<Outcome, Unclosed>
-    ensures says { told_closed result ≡ close_answer (server_of S.Store.meaning node.now) ticket.number ticket.term }
-    ensures back { HandsBack result ticket }
-{
-    if !node.up {
-        let refusal = Refusal::ServerDown;
-        return Err(Unclosed { refusal, ticket });
-    }
-    let outcome = match standing_of(node, ticket.number, ticket.term) {
-        Standing::Kept => Outcome::Kept,
-        Standing::Gone => Outcome::Gone,
-        Standing::Open | Standing::Unknown => {
-            let refusal = Refusal::Undecided;
-            return Err(Unclosed { refusal, ticket });
-        }
-    };
-    ticket.write_off();
-    Ok(outcome)
-}
 
 impl<S: Store + Drop, M: StateMachine + Drop> Server<S, M> {
     // A leader takes an edit as its next entry, and hands out a ticket for it.
@@ -42,20 +17,29 @@ impl<S: Store + Drop, M: StateMachine + Drop> Server<S, M> {
         ensures says { told_ticket result ≡ propose_answer (state_of S.Store self.old) }
         ensures turns { Turned S.Store M.StateMachine self.old (proposes edit) self.new }
     {
-        match self.propose(edit) {
-            Ok(proposed) => Ok(Ticket {
-                number: proposed.number,
-                term: proposed.term,
-            }),
-            Err(refusal) => Err(refusal),
-        }
+        let proposed = self.propose(edit)?;
+        Ok(Ticket { proposed })
+    }
+
+    // What became of the entry with a number and a term, if the server can tell.
+    fn outcome(&self, number: u32, term: u32) -> Result<Outcome, Refusal>
+        ensures { told_outcome result ≡ close_answer (state_of S.Store self.now) number term }
+    {
+        let standing = self.standing(number, term)?;
+        Outcome::try_from(standing)
     }
 
     // Closes a ticket whose outcome the server can tell, or hands it back.
     pub fn close(&self, ticket: Ticket) -> Result<Outcome, Unclosed>
-        ensures says { told_closed result ≡ close_answer (state_of S.Store self.now) ticket.number ticket.term }
+        ensures says { told_closed result ≡ close_answer (state_of S.Store self.now) ticket.proposed.number ticket.proposed.term }
         ensures back { HandsBack result ticket }
     {
-        close_at(&self.node, ticket)
+        match self.outcome(ticket.number(), ticket.term()) {
+            Ok(outcome) => {
+                ticket.write_off();
+                Ok(outcome)
+            }
+            Err(refusal) => Err(Unclosed { refusal, ticket }),
+        }
     }
 }

@@ -1,16 +1,19 @@
 // Tickets: the outcome that is owed to whoever proposed an edit.
 ghost use Rattle.std.specs.Prelude.{◌≡◌};
+ghost use Rattle.protocol.specs.Calls.{decided};
+ghost use Rattle.server.specs.Tickets.{told_outcome};
 
+use crate::Proposed;
+use protocol::Standing;
 use refusal::Refusal;
 
-// The number and the term of a proposed entry. It is closed or written off: nothing else lets it go.
+// What is owed for a proposal. It is closed or written off: nothing else lets it go.
 pub struct Ticket {
-    pub(crate) number: u32,
-    pub(crate) term: u32,
+    pub(crate) proposed: Proposed,
 }
 
 // What became of a proposal.
-#[derive(Clone, Copy)]
+#[derive(Clone, Copy, Debug, PartialEq, Eq)]
 pub enum Outcome {
     Kept,
     Gone,
@@ -22,21 +25,36 @@ pub struct Unclosed {
     pub ticket: Ticket,
 }
 
+// The outcome that a standing tells, if it tells one.
+impl TryFrom<Standing> for Outcome {
+    type Error = Refusal;
+
+    ghost try_from_gives = { λ standing outcome. told_outcome outcome ≡ decided standing };
+
+    fn try_from(standing: Standing) -> Result<Outcome, Refusal> {
+        match standing {
+            Standing::Kept => Ok(Outcome::Kept),
+            Standing::Gone => Ok(Outcome::Gone),
+            Standing::Open | Standing::Unknown => Err(Refusal::Undecided),
+        }
+    }
+}
+
 impl Ticket {
     pub fn number(&self) -> u32
-        ensures { result ≡ self.now.number }
+        ensures { result ≡ self.now.proposed.number }
     {
-        self.number
+        self.proposed.number
     }
 
     pub fn term(&self) -> u32
-        ensures { result ≡ self.now.term }
+        ensures { result ≡ self.now.proposed.term }
     {
-        self.term
+        self.proposed.term
     }
 
     // Gives up on being told the outcome.
     pub fn write_off(self) {
-        let Ticket { number: _, term: _ } = self;
+        let Ticket { proposed: _ } = self;
     }
 }

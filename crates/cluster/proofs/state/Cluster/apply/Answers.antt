@@ -1,22 +1,16 @@
-use Rattle.std.proofs.Common.{vec_items, sym, refl, ap, ◌∙◌}
-use Rattle.protocol.specs.State.{change}
+use Rattle.std.proofs.Common.{◌≡◌, Err, sym, refl, ap, ◌∙◌, rules}
+use Rattle.refusal.specs.Numbers.{told, number_of}
 use Rattle.protocol.specs.Rules.{applies_next}
 use Rattle.protocol.specs.Calls.{apply, said, done, apply_answer}
-use Rattle.cluster.specs.Meaning.{model}
-use Rattle.server.specs.Turns.{kind_of, state_of, states_of}
 use Rattle.cluster.proofs.Links.{nobody, on_one}
 use Rattle.cluster.proofs.state.Cluster.apply.Goals as goal
 
-pub returns-in-None : goal.returns-in-None
-returns-in-None g c =
-    let k = c.args.self.now in
-    let w = (model (kind_of g.M.StateMachine) (state_of g.S.Store) (states_of g.M.StateMachine) (vec_items k.servers) (vec_items k.network.messages)).core in
-    nobody (kind_of g.M.StateMachine) (state_of g.S.Store) (states_of g.M.StateMachine) (vec_items k.servers) (vec_items k.network.messages) c.args.server (sym c.in-None.is ∙ c.server_numbered.ensures)
-    (apply c.args.server) (λ r. said (λ _. done) (apply_answer (w.server r))) (λ r. change w r (applies_next (w.server r))) refl refl refl
+pub returns-in_err-me : goal.returns-in_err-me
+returns-in_err-me g c =
+    let t : told c.from_residual.result ≡ Err (number_of c.in_err-me.field-0.0) = search rules in
+    nobody c.args.self.now (apply c.args.server) _ (sym c.in_err-me.was ∙ c.try_from.ensures) _ (ap (said (λ _. done)) t)
 
-pub returns-in-Some : goal.returns-in-Some
-returns-in-Some g c =
-    let k = c.args.self.now in
-    on_one (kind_of g.M.StateMachine) (state_of g.S.Store) (states_of g.M.StateMachine) (vec_items k.servers) (vec_items k.network.messages) c.in-Some.me _ c.index_mut-s.result.now k.three c.place_of.ensures.is c.index_mut-s.ensures.value
-    c.args.server (sym c.in-Some.is ∙ c.server_numbered.ensures) (apply c.args.server) _ (λ r s. said (λ _. done) (apply_answer s)) (λ r. applies_next) _
-    (ap (said (λ _. done)) c.apply.ensures.says) c.apply.ensures.turns.goes c.apply.ensures.turns.moves refl refl refl
+pub returns : goal.returns
+returns g c =
+    on_one c.args.self.now c.in_ok-me.me _ c.index_mut.result.now c.place_of.ensures.is c.index_mut.ensures.value c.args.server (sym c.in_ok-me.was ∙ c.try_from.ensures)
+    (apply c.args.server) _ (λ s. said (λ _. done) (apply_answer s)) (λ r. applies_next) _ (ap (said (λ _. done)) c.apply.ensures.says) c.apply.ensures.turns refl refl refl

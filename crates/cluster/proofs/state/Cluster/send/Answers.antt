@@ -1,27 +1,27 @@
-use Rattle.std.proofs.Common.{vec_items, sym, ap, ◌∙◌}
-use Rattle.refusal.specs.Numbers.{told}
-use Rattle.server.specs.Turns.{kind_of, state_of, states_of}
-use Rattle.cluster.proofs.Sends.{send_nobody, send_nowhere, send_refused, send_done}
+use Rattle.std.proofs.Common.{◌≡◌, Err, sym, ap, ◌∙◌, rules}
+use Rattle.refusal.specs.Numbers.{told, number_of}
+use Rattle.protocol.specs.Calls.{send, said, lost}
+use Rattle.cluster.proofs.Links.{nobody}
+use Rattle.cluster.proofs.Sends.{send_nowhere, send_refused, send_done}
 use Rattle.cluster.proofs.state.Cluster.send.Goals as goal
 
-pub returns-in-None : goal.returns-in-None
-returns-in-None g c =
-    let k = c.args.self.now in
-    send_nobody (kind_of g.M.StateMachine) (state_of g.S.Store) (states_of g.M.StateMachine) (vec_items k.servers) (vec_items k.network.messages) c.args.server c.args.receiver (sym c.in-None.is ∙ c.server_numbered-sender.ensures)
+pub returns-in_err-me : goal.returns-in_err-me
+returns-in_err-me g c =
+    let t : told c.from_residual.result ≡ Err (number_of c.in_err-me.field-0.0) = search rules in
+    nobody c.args.self.now (send c.args.server c.args.receiver) _ (sym c.in_err-me.was ∙ c.try_from.ensures) _ (ap (said lost) t)
 
-pub returns-in-None-other : goal.returns-in-None-other
-returns-in-None-other g c =
-    let k = c.args.self.now in
-    send_nowhere (kind_of g.M.StateMachine) (state_of g.S.Store) (states_of g.M.StateMachine) (vec_items k.servers) (vec_items k.network.messages) c.args.server c.args.receiver c.in-Some.me (sym c.in-Some.is ∙ c.server_numbered-sender.ensures) (sym c.in-None-other.is ∙ c.server_numbered-other.ensures)
+pub returns-in_err-to : goal.returns-in_err-to
+returns-in_err-to g c =
+    let t : told c.from_residual-in_err-to.result ≡ Err (number_of c.in_err-to.field-0.0) = search rules in
+    send_nowhere c.args.self.now c.args.server c.args.receiver c.in_ok-me.me (sym c.in_ok-me.was ∙ c.try_from.ensures) _ (sym c.in_err-to.was ∙ c.try_from-2.ensures) _ (ap (said lost) t)
 
-pub returns-in-Err : goal.returns-in-Err
-returns-in-Err g c =
-    let k = c.args.self.now in
-    send_refused (kind_of g.M.StateMachine) (state_of g.S.Store) (states_of g.M.StateMachine) (vec_items k.servers) (vec_items k.network.messages) c.args.server c.args.receiver c.in-Some.me (sym c.in-Some.is ∙ c.server_numbered-sender.ensures) c.in-Some-other.to (sym c.in-Some-other.is ∙ c.server_numbered-other.ensures)
-    _ c.index-s.result.now k.three c.place_of.ensures.is c.index-s.ensures _ (ap told (sym c.in-Err.is) ∙ c.request.ensures)
+pub returns-in_err-message : goal.returns-in_err-message
+returns-in_err-message g c =
+    let t : told c.from_residual-in_err-message.result ≡ Err (number_of c.in_err-message.field-0.0) = search rules in
+    send_refused c.args.self.now c.args.server c.args.receiver c.in_ok-me.me (sym c.in_ok-me.was ∙ c.try_from.ensures) c.in_ok-to.to (sym c.in_ok-to.was ∙ c.try_from-2.ensures) _ c.index.result.now c.place_of.ensures.is c.index.ensures
+    _ _ (ap (said lost) t) (ap told (sym c.in_err-message.was) ∙ c.request.ensures)
 
-pub returns-in-Ok : goal.returns-in-Ok
-returns-in-Ok g c =
-    let k = c.args.self.now in
-    send_done (kind_of g.M.StateMachine) (state_of g.S.Store) (states_of g.M.StateMachine) (vec_items k.servers) (vec_items k.network.messages) c.args.server c.args.receiver c.in-Some.me (sym c.in-Some.is ∙ c.server_numbered-sender.ensures) c.in-Some-other.to (sym c.in-Some-other.is ∙ c.server_numbered-other.ensures)
-    _ c.index-s.result.now k.three c.place_of.ensures.is c.index-s.ensures c.in-Ok.message (ap told (sym c.in-Ok.is) ∙ c.request.ensures) c.post.result _ c.post.ensures.messages c.post.ensures.lost
+pub returns : goal.returns
+returns g c =
+    send_done c.args.self.now c.args.server c.args.receiver c.in_ok-me.me (sym c.in_ok-me.was ∙ c.try_from.ensures) c.in_ok-to.to (sym c.in_ok-to.was ∙ c.try_from-2.ensures) _ c.index.result.now c.place_of.ensures.is c.index.ensures
+    c.in_ok-message.message (ap told (sym c.in_ok-message.was) ∙ c.request.ensures) _ _ c.post.ensures.messages c.post.ensures.lost
