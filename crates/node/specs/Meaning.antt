@@ -5,6 +5,7 @@ use Rattle.protocol.specs.declared.ServerId.{ServerId}
 use Rattle.protocol.specs.declared.ServerId.TheVariants.{One, Two, Three}
 use Rattle.protocol.specs.State.{Server}
 use Rattle.node.specs.declared.Node.{Node}
+use Rattle.node.specs.declared.Progress.{Progress}
 
 -- where a list of three has what belongs to a server
 abbrev pub place : ServerId → ℕ
@@ -14,6 +15,10 @@ place Three = 2
 
 abbrev pub of3 : {A : Type 0} → A → List A → ServerId → A
 of3 d xs k = slice_index_or xs (place k) d
+
+-- the progress with a server of which nothing is known
+abbrev pub unknown : Progress
+unknown = record { next = 0; matched = 0 }
 
 module _ {S : Type 0} (meaning : S → StoreState) where
   abbrev pub server_of : Node S → Server
@@ -25,8 +30,8 @@ module _ {S : Type 0} (meaning : S → StoreState) where
     durable = (meaning n.store).durable;
     role = n.role;
     voters = of3 false n.voters;
-    next = of3 0 n.next;
-    match = of3 0 n.matched;
+    next = λ k. (of3 unknown n.progress k).next;
+    match = λ k. (of3 unknown n.progress k).matched;
     commit = n.commit;
     applied = n.applied;
   }

@@ -1,12 +1,12 @@
 // Terms and elections at one server.
 ghost use Rattle.std.specs.Prelude.{◌≡◌, ◌<◌, false};
 ghost use Rattle.refusal.specs.Numbers.{told};
-ghost use Rattle.protocol.specs.Elections.{taken, caught_up, stands as stoodFor, campaigns, not_below, vote_request, may_vote, grants, votes_for, hears_vote_request, vote_reply, counts, two_of, wins, tallied, hears_vote_reply};
+ghost use Rattle.protocol.specs.Elections.{taken, caught_up, stands as stood_for, campaigns, not_below, vote_request, may_vote, grants, votes_for, hears_vote_request, vote_reply, counts, two_of, wins, tallied, hears_vote_reply};
 ghost use Rattle.node.specs.Meaning.{server_of, Goes, of3};
 ghost use Rattle.node.specs.Campaigns.{stand_answer};
 
-use crate::Node;
-use crate::ids::{high_of, leads, low_of, number_of, place_of, stands};
+use crate::ids::{others_of, place_of};
+use crate::{Node, Progress};
 use protocol::{Body, Message, Role, ServerId};
 use refusal::Refusal;
 use store::Store;
@@ -18,20 +18,22 @@ pub const LAST_TERM: u32 = 1_000_000;
 pub fn not_below(a: (u32, u32), b: (u32, u32)) -> bool
     ensures { result ≡ not_below a b }
 {
-    b.0 < a.0 || (b.0 == a.0 && b.1 <= a.1)
+    a >= b
 }
 
 // Whether a vote given so far leaves this candidate.
 fn may_vote(vote: u16, candidate: ServerId) -> bool
     ensures { result ≡ may_vote vote candidate }
 {
-    vote == 0 || vote == number_of(candidate)
+    vote == 0 || vote == u16::from(candidate)
 }
 
-fn two_of(voters: &[bool; 3]) -> bool
-    ensures { result ≡ two_of (of3 false voters.now) }
+// Whether two of the three servers say yes.
+#[tactic(auto, using(crate::proofs::Tallies::two_counted))]
+pub fn two_of(votes: [bool; 3]) -> bool
+    ensures { result ≡ two_of (of3 false votes) }
 {
-    (voters[0] && voters[1]) || ((voters[0] && voters[2]) || (voters[1] && voters[2]))
+    votes.iter().filter(|vote| **vote).count() >= 2
 }
 
 impl<S: Store + Drop> Node<S> {
@@ -54,10 +56,10 @@ impl<S: Store + Drop> Node<S> {
 
     fn stand(&mut self, me: ServerId, term: u32)
         requires store_value { (S.Store.meaning self.old.store).term ≡ term }
-        requires term_bound { term < 1000000 }
-        ensures { Goes S.Store.meaning self.old (stoodFor me) self.new }
+        requires term_bound { term < LAST_TERM }
+        ensures { Goes S.Store.meaning self.old (stood_for me) self.new }
     {
-        self.store.set(term + 1, number_of(me));
+        self.store.set(term + 1, u16::from(me));
         self.role = Role::Candidate;
         self.voters = [false; 3];
         self.voters[place_of(me)] = true;
@@ -83,7 +85,7 @@ impl<S: Store + Drop> Node<S> {
         if !self.up {
             return Err(Refusal::ServerDown);
         }
-        if leads(self.role) {
+        if self.role == Role::Leader {
             return Err(Refusal::IsLeader);
         }
         let term = self.store.term();
@@ -91,10 +93,8 @@ impl<S: Store + Drop> Node<S> {
             return Err(Refusal::TermLimit);
         }
         self.stand(me, term);
-        Ok((
-            self.vote_request(me, low_of(me)),
-            self.vote_request(me, high_of(me)),
-        ))
+        let (low, high) = others_of(me);
+        Ok((self.vote_request(me, low), self.vote_request(me, high)))
     }
 
     fn grants(&self, from: ServerId, term: u32, pair: (u32, u32)) -> bool
@@ -108,7 +108,7 @@ impl<S: Store + Drop> Node<S> {
         ensures { Goes S.Store.meaning self.old (votes_for candidate) self.new }
     {
         let term = self.store.term();
-        self.store.set(term, number_of(candidate));
+        self.store.set(term, u16::from(candidate));
     }
 
     // Answers a vote request; a yes is recorded as the vote.
@@ -152,8 +152,7 @@ impl<S: Store + Drop> Node<S> {
     {
         let next = self.len() + 1;
         self.role = Role::Leader;
-        self.next = [next; 3];
-        self.matched = [0; 3];
+        self.progress = [Progress { next, matched: 0 }; 3];
     }
 
     // Counts a vote; with two it leads.
@@ -161,7 +160,7 @@ impl<S: Store + Drop> Node<S> {
         ensures { Goes S.Store.meaning self.old (tallied from) self.new }
     {
         self.count(from);
-        if two_of(&self.voters) {
+        if two_of(self.voters) {
             self.win();
         }
     }
@@ -169,7 +168,7 @@ impl<S: Store + Drop> Node<S> {
     pub fn hear_vote_reply(&mut self, from: ServerId, term: u32, ok: bool)
         ensures { server_of S.Store.meaning self.new ≡ hears_vote_reply (server_of S.Store.meaning self.old) from term ok }
     {
-        if ok && (term == self.store.term() && stands(self.role)) {
+        if ok && (term == self.store.term() && self.role == Role::Candidate) {
             self.tally(from);
         }
     }

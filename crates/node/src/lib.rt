@@ -9,15 +9,21 @@ pub mod ids;
 pub mod log;
 pub mod opening;
 
+// How far another server is: the number of the entry to send it next, and through which it is known to agree.
+#[derive(Clone, Copy, Debug, PartialEq, Eq)]
+pub struct Progress {
+    pub next: u32,
+    pub matched: u16,
+}
+
 #[derive(Drop)]
 pub struct Node<S: Store + Drop> {
     pub up: bool,
     pub store: S,
     pub role: Role,
-    // A candidate's voters; a leader's next and match for each server.
+    // A candidate's voters; a leader's progress with each server.
     pub voters: [bool; 3],
-    pub next: [u32; 3],
-    pub matched: [u16; 3],
+    pub progress: [Progress; 3],
     pub commit: u32,
     pub applied: u32,
 }

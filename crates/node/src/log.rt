@@ -5,12 +5,12 @@ ghost use Rattle.protocol.specs.Elections.{pair_of};
 
 use crate::Node;
 use record::Entry;
-use store::Store;
+use store::{MAX_ENTRIES, Store};
 
 impl<S: Store + Drop> Node<S> {
     pub fn len(&self) -> u32
         ensures is { result ≡ length (S.Store.meaning self.now.store).entries }
-        ensures few { result ≤ 64 }
+        ensures few { result ≤ MAX_ENTRIES }
     {
         self.store.len() as u32
     }
@@ -19,19 +19,13 @@ impl<S: Store + Drop> Node<S> {
     pub fn held(&self, i: u32) -> Option<Entry>
         ensures { result ≡ (if nat_lt i (length (S.Store.meaning self.now.store).entries) then Some (at (S.Store.meaning self.now.store).entries i) else None) }
     {
-        match self.store.entry(i as usize + 1) {
-            Ok(entry) => Some(entry),
-            Err(_) => None,
-        }
+        self.store.entry(i as usize + 1).ok()
     }
 
     pub fn term_at(&self, i: u32) -> u32
         ensures { result ≡ term_at (S.Store.meaning self.now.store).entries i }
     {
-        match self.held(i) {
-            Some(entry) => entry.term,
-            None => 0,
-        }
+        self.held(i).map_or(0, |entry| entry.term)
     }
 
     // The term of the entry with a number, 0 before the first.

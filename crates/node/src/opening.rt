@@ -4,7 +4,7 @@ ghost use Rattle.protocol.specs.declared.ServerId.TheVariants.{One};
 ghost use Rattle.protocol.specs.State.{core_opening};
 ghost use Rattle.node.specs.Meaning.{server_of};
 
-use crate::Node;
+use crate::{Node, Progress};
 use protocol::Role;
 use store::Store;
 
@@ -19,8 +19,10 @@ impl<S: Store + Drop> Node<S> {
             store,
             role: Role::Follower,
             voters: [false; 3],
-            next: [0; 3],
-            matched: [0; 3],
+            progress: [Progress {
+                next: 0,
+                matched: 0,
+            }; 3],
             commit: 0,
             applied: 0,
         }

@@ -18,6 +18,11 @@ pub enum ServerId {
     Three = 3,
 }
 
+impl ServerId {
+    // In order of their numbers.
+    pub const ALL: [ServerId; 3] = [ServerId::One, ServerId::Two, ServerId::Three];
+}
+
 impl From<ServerId> for u16 {
     ghost from_gives = { λ server number. number ≡ number_of server };
 

@@ -5,16 +5,17 @@ ghost use Rattle.protocol.specs.AppendEntries.{append_request, notes, got_yes, g
 ghost use Rattle.protocol.specs.Rules.{syncs};
 ghost use Rattle.node.specs.Meaning.{server_of, Goes};
 
-use node::Node;
-use node::ids::{is_same, leads, place_of};
-use protocol::{AppendEntries, Body, Message, ServerId};
+use node::elections::two_of;
+use node::ids::place_of;
+use node::{Node, Progress};
+use protocol::{AppendEntries, Body, Message, Role, ServerId};
 use store::Store;
 
 // The append request to a receiver: the entry before next, the commit, and entry next if it is held.
 pub fn append_request<S: Store + Drop>(node: &Node<S>, me: ServerId, receiver: ServerId) -> Message
     ensures { result ≡ append_request me (server_of S.Store.meaning node.now) receiver }
 {
-    let previous = node.next[place_of(receiver)].saturating_sub(1);
+    let previous = node.progress[place_of(receiver)].next.saturating_sub(1);
     Message {
         from: me,
         to: receiver,
@@ -29,27 +30,27 @@ pub fn append_request<S: Store + Drop>(node: &Node<S>, me: ServerId, receiver: S
 }
 
 // Notes next and match of a server.
-fn note<S: Store + Drop>(node: &mut Node<S>, server: ServerId, next: u32, matched: u16)
-    ensures { Goes S.Store.meaning node.old (notes server next matched) node.new }
+fn note<S: Store + Drop>(node: &mut Node<S>, server: ServerId, progress: Progress)
+    ensures { Goes S.Store.meaning node.old (notes server progress.next progress.matched) node.new }
 {
-    node.next[place_of(server)] = next;
-    node.matched[place_of(server)] = matched;
+    node.progress[place_of(server)] = progress;
 }
 
 fn got_yes<S: Store + Drop>(node: &mut Node<S>, server: ServerId, agreed: u16)
     ensures { Goes S.Store.meaning node.old (got_yes server agreed) node.new }
 {
-    let matched = node.matched[place_of(server)].max(agreed);
-    let next = node.next[place_of(server)].max(matched as u32 + 1);
-    note(node, server, next, matched);
+    let Progress { next, matched } = node.progress[place_of(server)];
+    let matched = matched.max(agreed);
+    let next = next.max(matched as u32 + 1);
+    note(node, server, Progress { next, matched });
 }
 
 fn got_no<S: Store + Drop>(node: &mut Node<S>, server: ServerId)
     ensures { Goes S.Store.meaning node.old (got_no server) node.new }
 {
-    let matched = node.matched[place_of(server)];
-    let lower = node.next[place_of(server)].saturating_sub(1);
-    note(node, server, lower.max(matched as u32 + 1), matched);
+    let Progress { next, matched } = node.progress[place_of(server)];
+    let next = next.saturating_sub(1).max(matched as u32 + 1);
+    note(node, server, Progress { next, matched });
 }
 
 fn got_reply<S: Store + Drop>(node: &mut Node<S>, from: ServerId, agreed: Option<u16>)
@@ -65,20 +66,17 @@ fn got_reply<S: Store + Drop>(node: &mut Node<S>, from: ServerId, agreed: Option
 fn known<S: Store + Drop>(node: &Node<S>, me: ServerId, server: ServerId) -> usize
     ensures { result ≡ known_of me (server_of S.Store.meaning node.now) server }
 {
-    if is_same(server, me) {
+    if server == me {
         node.store.durable()
     } else {
-        node.matched[place_of(server)] as usize
+        node.progress[place_of(server)].matched as usize
     }
 }
 
 fn two_hold<S: Store + Drop>(node: &Node<S>, me: ServerId, number: usize) -> bool
     ensures { result ≡ two_hold me (server_of S.Store.meaning node.now) number }
 {
-    let a = number <= known(node, me, ServerId::One);
-    let b = number <= known(node, me, ServerId::Two);
-    let c = number <= known(node, me, ServerId::Three);
-    (a && b) || ((a && c) || (b && c))
+    two_of(ServerId::ALL.map(|server| number <= known(node, me, server)))
 }
 
 // Whether the entry that `i` others stand before is of the own term, and two servers hold it.
@@ -92,13 +90,10 @@ fn may_commit<S: Store + Drop>(node: &Node<S>, me: ServerId, i: u32) -> bool
 fn top_held<S: Store + Drop>(node: &Node<S>, me: ServerId) -> u32
     ensures { result ≡ top me (server_of S.Store.meaning node.now) (length (S.Store.meaning node.now.store).entries) }
 {
-    let mut best = 0;
-    for i in 0..node.len() {
-        if may_commit(node, me, i) {
-            best = i + 1;
-        }
-    }
-    best
+    (0..node.len())
+        .rev()
+        .find(|i| may_commit(node, me, *i))
+        .map_or(0, |i| i + 1)
 }
 
 // Raises the leader's commit.
@@ -113,7 +108,7 @@ pub fn raise<S: Store + Drop>(node: &mut Node<S>, me: ServerId)
 pub fn hear_reply<S: Store + Drop>(node: &mut Node<S>, message: Message, agreed: Option<u16>)
     ensures { Goes S.Store.meaning node.old (hears_reply message.from message.to message.term agreed) node.new }
 {
-    if message.term == node.store.term() && leads(node.role) {
+    if message.term == node.store.term() && node.role == Role::Leader {
         got_reply(node, message.from, agreed);
         raise(node, message.to);
     }

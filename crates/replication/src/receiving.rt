@@ -4,10 +4,9 @@ ghost use Rattle.protocol.specs.AppendEntries.{follows, reaches, accepts, accept
 ghost use Rattle.node.specs.Meaning.{server_of, Goes};
 
 use node::Node;
-use node::ids::leads;
 use protocol::{AppendEntries, Body, Message, Role, ServerId};
 use record::Entry;
-use store::Store;
+use store::{MAX_ENTRIES, Store};
 
 // Whether the first `previous` entries are held, the last of them of this term.
 fn reaches_to<S: Store + Drop>(node: &Node<S>, previous: u32, term: u32) -> bool
@@ -33,7 +32,7 @@ fn hold<S: Store + Drop>(node: &mut Node<S>, agreed: u32, commit: u32)
 
 // Appends an entry, and syncs.
 fn append<S: Store + Drop>(node: &mut Node<S>, agreed: u32, commit: u32, entry: Entry)
-    requires { length (S.Store.meaning node.old.store).entries < 64 }
+    requires { length (S.Store.meaning node.old.store).entries < MAX_ENTRIES }
     ensures { Goes S.Store.meaning node.old (λ s. accepts (s.log ++ entry ∷ []) s.applied agreed commit s) node.new }
 {
     let _ = node.store.append(entry);
@@ -66,7 +65,7 @@ fn accept<S: Store + Drop>(
     ensures after { Goes S.Store.meaning node.old (accepted previous commit entry) node.new }
     ensures says { result ≡ accepted_to previous entry (server_of S.Store.meaning node.old) }
 {
-    if previous >= 64 {
+    if previous as usize >= MAX_ENTRIES {
         follow(node);
         return None;
     }
@@ -126,7 +125,7 @@ pub fn hear_append<S: Store + Drop>(
     if message.term != node.store.term() {
         return Some(no_to(node, message.from, message.to));
     }
-    if leads(node.role) {
+    if node.role == Role::Leader {
         return None;
     }
     if !reaches_to(node, append.previous, append.previous_term) {
