@@ -1,4 +1,3 @@
 pub mod Ints
-pub mod EditKinds
 pub mod Nearest
 pub mod Ranges

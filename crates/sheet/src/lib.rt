@@ -2,8 +2,10 @@
 #![tactic(auto)]
 
 mod grading;
+pub mod kind;
 mod rules;
 pub mod starred;
 pub mod types;
 
+pub use kind::{Kind, UnknownKind};
 pub use types::{Edit, Row, Sheet};

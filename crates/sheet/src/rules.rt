@@ -1,13 +1,15 @@
 // The whole sheet: reading a cell, replacing a row, applying an edit.
-ghost use Rattle.std.specs.Prelude.{◌≡◌, ℕ, [], set, pos, ◌≤ℤ◌, Some};
+ghost use Rattle.std.specs.Prelude.{◌≡◌};
 ghost use Rattle.sheet.specs.Cells.{cells_of, row_in};
-ghost use Rattle.sheet.specs.Rules.{place, opening, row_at, with_row, cell_at, new_row, next};
+ghost use Rattle.sheet.specs.Rules.{opening, row_at, with_row, cell_at, new_row, next};
 
-use super::grading::{place_of, within};
+use super::grading::place_of;
+use super::kind::Kind;
 use super::types::{Edit, Row, Sheet};
 
 impl Sheet {
     // The sheet at opening: every cell is 0.
+    #[tactic(auto, unfolding(crate::specs::Rules::opening))]
     pub fn blank() -> Sheet
         ensures { cells_of result ≡ opening }
     {
@@ -15,30 +17,19 @@ impl Sheet {
         Sheet { rows: [row; 8] }
     }
 
-    fn row_at(&self, number: i32) -> Row
-        requires { (pos 1 ≤ℤ number) × (number ≤ℤ pos 8) }
-        ensures { Some result.cells ≡ row_at (cells_of self.now) number }
-    {
-        self.rows[place_of(number)]
-    }
-
     // The row of that number, if there is one.
     pub fn row(&self, number: i32) -> Option<Row>
         ensures { row_in result ≡ row_at (cells_of self.now) number }
     {
-        if within(1, 8, number) {
-            Some(self.row_at(number))
-        } else {
-            None
-        }
+        Some(self.rows[place_of::<8>(number)?])
     }
 
     // Replaces the row of that number; changes nothing where there is no such row.
     pub fn replace_row(&mut self, number: i32, row: Row)
         ensures { cells_of self.new ≡ with_row (cells_of self.old) number row.cells }
     {
-        if within(1, 8, number) {
-            self.rows[place_of(number)] = row;
+        if let Some(place) = place_of::<8>(number) {
+            self.rows[place] = row;
         }
     }
 
@@ -46,26 +37,19 @@ impl Sheet {
     pub fn cell(&self, row: i32, size: i32) -> Option<u16>
         ensures { result ≡ cell_at (cells_of self.now) row size }
     {
-        if within(1, 12, size) {
-            Some(self.row(row)?.cells[place_of(size)])
-        } else {
-            None
-        }
+        Some(self.row(row)?.cells[place_of::<12>(size)?])
     }
 
     // The row that the edit puts in place of the one that it names; nothing where it is set aside.
     pub fn new_row(&self, edit: Edit) -> Option<Row>
         ensures { row_in result ≡ new_row (cells_of self.now) edit }
     {
-        if !within(1, 8, edit.row) {
-            return None;
-        }
-        let old = self.row_at(edit.row);
-        match edit.kind {
-            1 => old.set(edit.size, edit.a),
-            2 => old.grade(edit.size, edit.a, edit.q),
-            3 => self.row(edit.a),
-            _ => None,
+        let old = self.row(edit.row)?;
+        match Kind::try_from(edit.kind) {
+            Ok(Kind::Set) => old.set(edit.size, edit.a),
+            Ok(Kind::Grade) => old.grade(edit.size, edit.a, edit.q),
+            Ok(Kind::Copy) => self.row(edit.a),
+            Err(_) => None,
         }
     }
 
@@ -78,6 +62,7 @@ impl Sheet {
     }
 
     // The same in place.
+    #[tactic(auto, unfolding(crate::specs::Rules::next))]
     pub fn change(&mut self, edit: Edit)
         ensures { cells_of self.new ≡ next (cells_of self.old) edit }
     {

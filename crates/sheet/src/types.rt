@@ -7,6 +7,7 @@ pub const CELL_MAX: u16 = 30_000;
 // An edit: a kind, and four words of which each kind names some.
 #[derive(Clone, Copy, Debug, Default, PartialEq, Eq)]
 pub struct Edit {
+    // Kept: a number and no `Kind`, since a record keeps any number, and other numbers change nothing.
     pub kind: u16,
     pub row: i32,
     pub size: i32,

@@ -1,26 +1,41 @@
-use Rattle.std.proofs.Common.{◌≡◌, true, ◌&&◌, get_or, pos, negsuc, ◌≤ℤ◌, None, sym, ◌∙◌, w32, SFits}
+use Rattle.std.proofs.Common.{◌≡◌, ℕ, length, pos, ap, ◌∙◌, arith, rules, w32, SFits}
 use Rattle.std.proofs.lemmas.Int.{to_z-of_z}
-use Rattle.std.proofs.lemmas.Bool.{and_from, cond-true}
 use Rattle.sheet.specs.Cells.{row_in}
-use Rattle.sheet.specs.Rules.{between, is_size, place, fitted, graded_cells}
-use Rattle.sheet.proofs.Nearest.{graded_nearest}
+use Rattle.sheet.specs.Rules.{graded, graded_cells}
+use Rattle.sheet.proofs.Nearest.{grade_is}
+use Rattle.sheet.proofs.Ranges.{ranged_set, graded_more, graded_out, row_is, fitted_none, fitted_cells}
 use Rattle.sheet.proofs.types.Row.grade.Goals as goal
 
-pub grade_cells-requires : goal.grade_cells-requires
-grade_cells-requires c =
-    record { size = c.within.ensures.inside c.if-within.true; a = c.within-then-within.ensures.inside c.if-within-2.true; q = c.within-then-within-2.ensures.inside c.if-within-3.true }
-
-pub returns-then-within-3 : goal.returns-then-within-3
-returns-then-within-3 c =
+pub returns-in_err-cell : goal.returns-in_err-cell
+unfolding graded_cells
+returns-in_err-cell c =
     let f : SFits w32 c.args.size = c.ranges.size in
-    let g : SFits w32 c.args.a = c.ranges.a in
-    let h : SFits w32 c.args.q = c.ranges.q in
-    let s : c.within.result ≡ is_size c.args.size = simp to_z-of_z at c.within.ensures.value in
-    let a : c.within-then-within.result ≡ between (negsuc 99999) (pos 100000) c.args.a = simp to_z-of_z at c.within-then-within.ensures.value in
-    let q : c.within-then-within-2.result ≡ between (pos 1) (pos 1000) c.args.q = simp to_z-of_z at c.within-then-within-2.ensures.value in
-    let b : (is_size c.args.size && (between (negsuc 99999) (pos 100000) c.args.a && between (pos 1) (pos 1000) c.args.q)) ≡ true
-    = and_from _ _ (sym s ∙ c.if-within.true) (and_from _ _ (sym a ∙ c.if-within-2.true) (sym q ∙ c.if-within-3.true)) in
-    let e : row_in c.grade_cells.result ≡ fitted (graded_cells (get_or c.args.self.cells (place c.args.size) 0) c.args.size c.args.a c.args.q)
-    = simp to_z-of_z at c.grade_cells.ensures in
-    let i : (pos 1 ≤ℤ c.args.q) × (c.args.q ≤ℤ pos 1000) = simp to_z-of_z at (c.within-then-within-2.ensures.inside c.if-within-3.true) in
-    record { cells = e ∙ sym (cond-true _ _ None b); nearest = graded_nearest c.args.self.cells c.args.size c.args.a c.args.q i.0 (row_in c.grade_cells.result) e }
+    let h : SFits w32 c.args.a = c.ranges.a in
+    let k : SFits w32 c.args.q = c.ranges.q in
+    let g = c.in_ok-grading.grading in
+    let e = simp to_z-of_z at c.in_ok-grading.ensures in
+    let o = graded_out (λ (s : ℕ). graded g.base g.size g.a g.q (pos s)) c.loop-i.i c.loop-i-test.true c.in_err-cell.ensures in
+    let r = grade_is c.args.self.cells g.base c.args.size c.args.a c.args.q g.size g.a g.q e.0 e.1 e.2 e.3 e.4 g.ranged_q.0 _
+    (ap row_in c.from_residual-in_err-cell.ensures ∙ fitted_none (graded_cells g.base g.size g.a g.q) o) in
+    record { cells = r.0; nearest = r.1 }
+
+pub loop-i-preserved : goal.loop-i-preserved
+loop-i-preserved c =
+    let e = c.in_ok-cell.ensures in
+    let l : length c.loop-i.cell-items ≡ 12 = search rules in (
+      ranged_set c.loop-i.cell-items c.loop-i.i c.in_ok-cell.field-0 e.1 c.loop-i.invariant.0,
+      graded_more c.loop-i.cell-items c.loop-i.i c.in_ok-cell.field-0 _ (omega arith) c.loop-i.invariant.1 e.0,
+    )
+
+pub returns : goal.returns
+unfolding graded_cells
+returns c =
+    let f : SFits w32 c.args.size = c.ranges.size in
+    let h : SFits w32 c.args.a = c.ranges.a in
+    let k : SFits w32 c.args.q = c.ranges.q in
+    let g = c.in_ok-grading.grading in
+    let e = simp to_z-of_z at c.in_ok-grading.ensures in
+    let w = row_is c.loop-i.cell-items (λ (s : ℕ). graded g.base g.size g.a g.q (pos s)) c.loop-i-test.array_long (λ k b. c.loop-i.invariant.1 k (omega arith)) in
+    let r = grade_is c.args.self.cells g.base c.args.size c.args.a c.args.q g.size g.a g.q e.0 e.1 e.2 e.3 e.4 g.ranged_q.0 _
+    (fitted_cells c.loop-i.cell-items _ c.loop-i.invariant.0 w) in
+    record { cells = r.0; nearest = r.1 }

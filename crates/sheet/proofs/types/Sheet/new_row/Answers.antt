@@ -1,36 +1,22 @@
-use Rattle.std.proofs.Common.{◌≡◌, Some, ap, ◌∙◌, w32, SFits, rules}
+use Rattle.std.proofs.Common.{◌≡◌, ℕ, Ok, Some, sym, ap, ◌∙◌, arith, rules, w32, SFits}
 use Rattle.std.proofs.lemmas.Int.{to_z-of_z}
+use Rattle.std.proofs.lemmas.Bool.Decides.{nat_tests}
+use Rattle.sheet.specs.declared.kind.Kind.TheVariants.{Grade}
 use Rattle.sheet.specs.Cells.{cells_of, row_in}
-use Rattle.sheet.specs.Rules.{row_at, set_row, grade_row, of_kind}
-use Rattle.sheet.proofs.EditKinds.{kind_1, kind_2, kind_3}
+use Rattle.sheet.specs.Kinds.{kind_of}
+use Rattle.sheet.specs.Rules.{row_at, grade_row}
 use Rattle.sheet.proofs.types.Sheet.new_row.Goals as goal
 
-pub returns-in-1 : goal.returns-in-1
-returns-in-1 c =
+grade_is_2 : (n : ℕ) → kind_of n ≡ Ok Grade → n ≡ 2
+grade_is_2 n h = grind (arith, nat_tests)
+
+pub returns-in-Ok-Grade : goal.returns-in-Ok-Grade
+returns-in-Ok-Grade c =
     let f : SFits w32 c.args.edit.row = search rules in
     let g : SFits w32 c.args.edit.size = search rules in
     let h : SFits w32 c.args.edit.a = search rules in
-    let s = cells_of c.args.self.now in
-    let o : Some c.row_at-old.result.cells ≡ row_at s c.args.edit.row = simp to_z-of_z at c.row_at-old.ensures in
-    let e : row_in c.set.result ≡ set_row c.row_at-old.result.cells c.args.edit.size c.args.edit.a = simp to_z-of_z at c.set.ensures in
-    e ∙ kind_1 s c.args.edit c.row_at-old.result.cells c.in-1.is ∙ ap (of_kind s c.args.edit) o
-
-pub returns-in-2 : goal.returns-in-2
-returns-in-2 c =
-    let f : SFits w32 c.args.edit.row = search rules in
-    let g : SFits w32 c.args.edit.size = search rules in
-    let h : SFits w32 c.args.edit.a = search rules in
-    let i : SFits w32 c.args.edit.q = search rules in
-    let s = cells_of c.args.self.now in
-    let o : Some c.row_at-old.result.cells ≡ row_at s c.args.edit.row = simp to_z-of_z at c.row_at-old.ensures in
-    let e : row_in c.grade.result ≡ grade_row c.row_at-old.result.cells c.args.edit.size c.args.edit.a c.args.edit.q = simp to_z-of_z at c.grade.ensures.cells in
-    e ∙ kind_2 s c.args.edit c.row_at-old.result.cells c.in-2.is ∙ ap (of_kind s c.args.edit) o
-
-pub returns-in-3 : goal.returns-in-3
-returns-in-3 c =
-    let f : SFits w32 c.args.edit.row = search rules in
-    let h : SFits w32 c.args.edit.a = search rules in
-    let s = cells_of c.args.self.now in
-    let o : Some c.row_at-old.result.cells ≡ row_at s c.args.edit.row = simp to_z-of_z at c.row_at-old.ensures in
-    let e : row_in c.row.result ≡ row_at s c.args.edit.a = simp to_z-of_z at c.row.ensures in
-    e ∙ kind_3 s c.args.edit c.row_at-old.result.cells c.in-3.is ∙ ap (of_kind s c.args.edit) o
+    let k : SFits w32 c.args.edit.q = search rules in
+    let n : c.args.edit.kind ≡ 2 = grade_is_2 c.args.edit.kind (sym c.try_from.ensures ∙ c.in-Ok-Grade.is ∙ ap Ok c.in-Ok-Grade.field-0-is) in
+    let o : row_at (cells_of c.args.self.now) c.args.edit.row ≡ Some c.in_ok-old.old.cells = sym (simp to_z-of_z at c.in_ok-old.ensures) in
+    let e : row_in c.grade.result ≡ grade_row c.in_ok-old.old.cells c.args.edit.size c.args.edit.a c.args.edit.q = simp to_z-of_z at c.grade.ensures.cells in
+    rw (o, n) e
