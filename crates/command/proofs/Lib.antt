@@ -1,4 +1,4 @@
-pub mod Splits
+pub mod Characters
 pub mod Lines
 pub mod Sole
 pub mod Puts

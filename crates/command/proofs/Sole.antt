@@ -1,45 +1,42 @@
 -- A line has at most one reading.
-use Rattle.std.proofs.Common.{◌≡◌, ℕ, cond, eqb, List, get_or, ℤ, Some, None, Option, sym, refl, ap, ◌∙◌, subst}
+use Rattle.std.proofs.Common.{◌≡◌, ℕ, cond, eqb, List, get_or, ℤ, Some, None, Option, MatchOption, sym, refl, ap, ◌∙◌, subst}
+use Rattle.std.specs.Option.{IsSomeAnd}
 use Rattle.sheet.specs.declared.types.Edit.{Edit}
 use Rattle.command.specs.declared.types.Command.{Command}
 use Rattle.command.specs.declared.types.Command.TheVariants.{Campaign, Deliver, Lose, Propose, Firm, Send, Apply, Outage, Restart, Standing, Look}
-use Rattle.command.specs.Grammar.{Finds, FindsOnly, Both, Number, Kind, Word, Two, Three, EditIn, Says, Reads}
-use Rattle.command.proofs.Splits.{number_no_space, kind_no_space, word_no_space, clean_no_space, together}
-use Rattle.command.proofs.Lines.{FromRow, FromSize, FromA, name_clean, says}
-
--- a text writes one number
-same_number : (a b : ℕ) (bs : List ℕ) → Number a bs → Number b bs → a ≡ b
-same_number a b bs w v = w.value_is ∙ sym v.value_is
-
-same_word : (y z : ℤ) (bs : List ℕ) → Word y bs → Word z bs → y ≡ z
-same_word y z bs w v = w.value ∙ sym v.value
+use Rattle.text.specs.Words.{Finds, Both, Number, Kind, Word, FromRow, EditIn}
+use Rattle.text.specs.Numerals.{number_visible, number_sole, kind_visible, kind_sole, word_visible, word_sole}
+use Rattle.text.proofs.Splits.{visible_no_space, together}
+use Rattle.text.proofs.EditWords.{FromSize, FromA}
+use Rattle.command.specs.Grammar.{FindsOnly, Two, Three, Says, Reads}
+use Rattle.command.proofs.Lines.{name_visible, says}
 
 same_two : (a b c d : ℕ) (bs : List ℕ) → Two a b bs → Two c d bs → (a ≡ c) × (b ≡ d)
 same_two a b c d bs w v =
-    let t = together (Number a) (Number b) (Number c) (Number d) (number_no_space a) (number_no_space c) bs w v in
-    (same_number a c t.0 t.2 t.3, same_number b d t.1 t.4 t.5)
+    let t = together Number number_visible a c (Number b) (Number d) bs w v in
+    (number_sole a c t.0 t.2 t.3, number_sole b d t.1 t.4 t.5)
 
 same_three : (a b c x y z : ℕ) (bs : List ℕ) → Three a b c bs → Three x y z bs → (a ≡ x) × (b ≡ y) × (c ≡ z)
 same_three a b c x y z bs w v =
-    let t = together (Number a) (Two b c) (Number x) (Two y z) (number_no_space a) (number_no_space x) bs w v in
+    let t = together Number number_visible a x (Two b c) (Two y z) bs w v in
     let s = same_two b c y z t.1 t.4 t.5 in
-    (same_number a x t.0 t.2 t.3, s.0, s.1)
+    (number_sole a x t.0 t.2 t.3, s.0, s.1)
 
 same_edit : (e f : Edit) (bs : List ℕ) → EditIn e bs → EditIn f bs → e ≡ f
 same_edit e f bs w v =
-    let k = together (Kind e.kind) (FromRow e) (Kind f.kind) (FromRow f) (kind_no_space e.kind) (kind_no_space f.kind) bs w v in
-    let r = together (Word e.row) (FromSize e) (Word f.row) (FromSize f) (word_no_space e.row) (word_no_space f.row) k.1 k.4 k.5 in
-    let s = together (Word e.size) (FromA e) (Word f.size) (FromA f) (word_no_space e.size) (word_no_space f.size) r.1 r.4 r.5 in
-    let a = together (Word e.a) (Word e.q) (Word f.a) (Word f.q) (word_no_space e.a) (word_no_space f.a) s.1 s.4 s.5 in
-    let p0 = same_number e.kind f.kind k.0 k.2.0 k.3.0 in
-    let p1 = same_word e.row f.row r.0 r.2 r.3 in
-    let p2 = same_word e.size f.size s.0 s.2 s.3 in
-    let p3 = same_word e.a f.a a.0 a.2 a.3 in
-    let p4 = same_word e.q f.q a.1 a.4 a.5 in
+    let k = together Kind kind_visible e.kind f.kind (FromRow e) (FromRow f) bs w v in
+    let r = together Word word_visible e.row f.row (FromSize e) (FromSize f) k.1 k.4 k.5 in
+    let s = together Word word_visible e.size f.size (FromA e) (FromA f) r.1 r.4 r.5 in
+    let a = together Word word_visible e.a f.a (Word e.q) (Word f.q) s.1 s.4 s.5 in
+    let p0 = kind_sole e.kind f.kind k.0 k.2 k.3 in
+    let p1 = word_sole e.row f.row r.0 r.2 r.3 in
+    let p2 = word_sole e.size f.size s.0 s.2 s.3 in
+    let p3 = word_sole e.a f.a a.0 a.2 a.3 in
+    let p4 = word_sole e.q f.q a.1 a.4 a.5 in
     λ i. record { kind = p0 i; row = p1 i; size = p2 i; a = p3 i; q = p4 i }
 
 -- the names, told apart by their first and third bytes
-data Name : Type 0 where
+pub data Name : Type 0 where
   campaign : Name
   deliver : Name
   lose : Name
@@ -65,10 +62,10 @@ name_of (Restart a) = restart
 name_of (Standing a b c) = standing
 name_of (Look a b c) = look
 
-abbrev initial : ℕ → List ℕ → Name → Name → Name
+abbrev pub initial : ℕ → List ℕ → Name → Name → Name
 initial c bs here there = cond (eqb (get_or bs 0 0) c) here there
 
-abbrev named : List ℕ → Name
+abbrev pub named : List ℕ → Name
 named bs = initial 99 bs campaign (initial 100 bs deliver (initial 108 bs (cond (eqb (get_or bs 2 0) 115) lose look) (initial 112 bs propose (initial 102 bs firm (initial 115 bs (cond (eqb (get_or bs 1 0) 101) send standing) (initial 97 bs apply (initial 111 bs outage restart)))))))
 
 name_is : (name rest : List ℕ) (x : Command) → Says name rest x → named name ≡ name_of x
@@ -86,7 +83,7 @@ name_is name rest (Standing a b c) w = ap named w.0
 name_is name rest (Look a b c) w = ap named w.0
 
 -- what follows a name, as a command of that name
-abbrev Follows : Name → List ℕ → Command → Type 0
+abbrev pub Follows : Name → List ℕ → Command → Type 0
 Follows campaign rest x = (a : ℕ) × (x ≡ Campaign a) × Number a rest
 Follows deliver rest x = (a : ℕ) × (b : ℕ) × (x ≡ Deliver a b) × Two a b rest
 Follows lose rest x = (a : ℕ) × (x ≡ Lose a) × Number a rest
@@ -114,7 +111,7 @@ follows name rest (Standing a b c) w = (a, b, c, refl, w.1)
 follows name rest (Look a b c) w = (a, b, c, refl, w.1)
 
 one_same : (f : ℕ → Command) (rest : List ℕ) (x y : Command) → (a : ℕ) × (x ≡ f a) × Number a rest → (a : ℕ) × (y ≡ f a) × Number a rest → x ≡ y
-one_same f rest x y p q = p.1 ∙ ap f (same_number p.0 q.0 rest p.2 q.2) ∙ sym q.1
+one_same f rest x y p q = p.1 ∙ ap f (number_sole p.0 q.0 rest p.2 q.2) ∙ sym q.1
 
 two_same : (f : ℕ → ℕ → Command) (rest : List ℕ) (x y : Command) → (a : ℕ) × (b : ℕ) × (x ≡ f a b) × Two a b rest → (a : ℕ) × (b : ℕ) × (y ≡ f a b) × Two a b rest → x ≡ y
 two_same f rest x y p q = let s = same_two p.0 p.1 q.0 q.1 rest p.3 q.3 in p.2 ∙ (λ i. f (s.0 i) (s.1 i)) ∙ sym q.2
@@ -127,8 +124,8 @@ same_command campaign rest x y p q = one_same (λ a. Campaign a) rest x y p q
 same_command deliver rest x y p q = two_same (λ a b. Deliver a b) rest x y p q
 same_command lose rest x y p q = one_same (λ a. Lose a) rest x y p q
 same_command propose rest x y p q =
-    let t = together (Number p.0) (EditIn p.1) (Number q.0) (EditIn q.1) (number_no_space p.0) (number_no_space q.0) rest p.3 q.3 in
-    let s = same_number p.0 q.0 t.0 t.2 t.3 in
+    let t = together Number number_visible p.0 q.0 (EditIn p.1) (EditIn q.1) rest p.3 q.3 in
+    let s = number_sole p.0 q.0 t.0 t.2 t.3 in
     let e = same_edit p.1 q.1 t.1 t.4 t.5 in
     p.2 ∙ (λ i. Propose (s i) (e i)) ∙ sym q.2
 same_command firm rest x y p q = one_same (λ a. Firm a) rest x y p q
@@ -139,12 +136,36 @@ same_command restart rest x y p q = one_same (λ a. Restart a) rest x y p q
 same_command standing rest x y p q = three_same (λ a b c. Standing a b c) rest x y p q
 same_command look rest x y p q = three_same (λ a b c. Look a b c) rest x y p q
 
+-- what is said of a name is what follows it
+pub found : (n : Name) (name rest : List ℕ) → named name ≡ n → (x : Command) → Says name rest x → Follows n rest x
+found n name rest e x w = subst (λ (k : Name). Follows k rest x) (sym (name_is name rest x w) ∙ e) (follows name rest x w)
+
 pub one_reading : (bs : List ℕ) (x y : Command) → Reads bs x → Reads bs y → x ≡ y
 one_reading bs x y w v =
-    let s = says bs w.0 w.1 w.2 (clean_no_space w.0 (name_clean w.0 w.1 x w.3)) y v in
-    let n : name_of y ≡ name_of x = sym (name_is w.0 w.1 y s) ∙ name_is w.0 w.1 x w.3 in
-    same_command (name_of x) w.1 x y (follows w.0 w.1 x w.3) (subst (λ (k : Name). Follows k w.1 y) n (follows w.0 w.1 y s))
+    let s = says bs w.0 w.1 w.2 (visible_no_space w.0 (name_visible w.0 w.1 x w.3)) y v in
+    same_command (name_of x) w.1 x y (follows w.0 w.1 x w.3) (found (name_of x) w.0 w.1 (name_is w.0 w.1 x w.3) y s)
 
 pub only : (bs : List ℕ) (r : Option Command) → Finds r (Reads bs) → FindsOnly r (Reads bs)
 only bs None f = f
 only bs (Some x) f = (f, λ y w. one_reading bs y x w f)
+
+-- a command that is made of what was found
+pub mapped : {Y : Type 0} (N : Y → Type 0) (S : Command → Type 0) (f : Y → Command) (L : Y → Command → Type 0) (q : Option Y) (r : Option Command)
+    → Finds q N → MatchOption q (r ≡ None) (λ x. IsSomeAnd r (L x)) → ((x : Y) (c : Command) → L x c → c ≡ f x)
+    → ((x : Y) → N x → S (f x)) → ((c : Command) → S c → (x : Y) × N x) → Finds r S
+mapped N S f L None r n m l s b = subst (λ (o : Option Command). Finds o S) (sym m) (λ c w. let p = b c w in n p.0 p.1)
+mapped N S f L (Some x) (Some c) n m l s b = subst S (sym (l x c m)) (s x n)
+mapped N S f L (Some x) None n m l s b = absurd m
+
+module _ (name rest : List ℕ) where
+  pub mapped_two : (f : ℕ → ℕ → Command) (L : ℕ × ℕ → Command → Type 0) (q : Option (ℕ × ℕ)) (r : Option Command)
+      → Finds q (λ x. Two x.0 x.1 rest) → MatchOption q (r ≡ None) (λ x. IsSomeAnd r (L x)) → ((x : ℕ × ℕ) (c : Command) → L x c → c ≡ f x.0 x.1)
+      → ((a b : ℕ) → Two a b rest → Says name rest (f a b))
+      → ((x : Command) → Says name rest x → (a : ℕ) × (b : ℕ) × (x ≡ f a b) × Two a b rest) → Finds r (Says name rest)
+  mapped_two f L q r n m l s b = mapped (λ x. Two x.0 x.1 rest) (Says name rest) (λ x. f x.0 x.1) L q r n m l (λ x t. s x.0 x.1 t) (λ x w. let p = b x w in ((p.0, p.1), p.3))
+
+  pub mapped_three : (f : ℕ → ℕ → ℕ → Command) (L : ℕ × ℕ × ℕ → Command → Type 0) (q : Option (ℕ × ℕ × ℕ)) (r : Option Command)
+      → Finds q (λ x. Three x.0 x.1 x.2 rest) → MatchOption q (r ≡ None) (λ x. IsSomeAnd r (L x)) → ((x : ℕ × ℕ × ℕ) (c : Command) → L x c → c ≡ f x.0 x.1 x.2)
+      → ((a b c : ℕ) → Three a b c rest → Says name rest (f a b c))
+      → ((x : Command) → Says name rest x → (a : ℕ) × (b : ℕ) × (c : ℕ) × (x ≡ f a b c) × Three a b c rest) → Finds r (Says name rest)
+  mapped_three f L q r n m l s b = mapped (λ x. Three x.0 x.1 x.2 rest) (Says name rest) (λ x. f x.0 x.1 x.2) L q r n m l (λ x t. s x.0 x.1 x.2 t) (λ x w. let p = b x w in ((p.0, p.1, p.2), p.4))

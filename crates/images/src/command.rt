@@ -1,7 +1,7 @@
 // The commands of a script.
 use record::Entry;
 use sheet::Edit;
-use text::{edit_in, unsigned};
+use text::{first, number, plain_edit_in};
 
 // The longest buffer that an image is written into.
 const MAX_ROOM: u32 = 4096;
@@ -20,33 +20,24 @@ pub enum Command<'a> {
     Cut(u32),
     Byte(u32, u8),
     Load(&'a str),
-    Unknown,
 }
 
 fn ballot_in(text: &str) -> Option<(u32, u16)> {
-    let (term, vote) = text.split_once(' ')?;
-    Some((unsigned(term)?, u16::try_from(unsigned(vote)?).ok()?))
-}
-
-// An edit whose kind has no sign.
-fn plain_edit_in(text: &str) -> Option<Edit> {
-    match text.as_bytes() {
-        [b'-', ..] => None,
-        _ => edit_in(text),
-    }
+    let (term, vote) = first(text)?;
+    Some((term, number(vote)?))
 }
 
 fn entry_in(text: &str) -> Option<Entry> {
-    let (term, edit) = text.split_once(' ')?;
+    let (term, edit) = first(text)?;
     Some(Entry {
-        term: unsigned(term)?,
+        term,
         edit: plain_edit_in(edit)?,
     })
 }
 
 fn byte_in(text: &str) -> Option<(u32, u8)> {
-    let (at, value) = text.split_once(' ')?;
-    Some((unsigned(at)?, u8::try_from(unsigned(value)?).ok()?))
+    let (at, value) = first(text)?;
+    Some((at, u8::try_from(number::<u32>(value)?).ok()?))
 }
 
 fn on_store<'a>(word: &str, rest: &str) -> Option<Command<'a>> {
@@ -56,7 +47,7 @@ fn on_store<'a>(word: &str, rest: &str) -> Option<Command<'a>> {
             Some(Command::Set(term, vote))
         }
         "append" => Some(Command::Append(entry_in(rest)?)),
-        "write" => match unsigned(rest)? {
+        "write" => match number(rest)? {
             room if room <= MAX_ROOM => Some(Command::Write(room)),
             _ => None,
         },
@@ -69,7 +60,7 @@ fn on_image<'a>(word: &str, rest: &'a str) -> Option<Command<'a>> {
         "say" => Some(Command::Say(rest)),
         "read" if !rest.is_empty() => Some(Command::Read(rest)),
         "load" if !rest.is_empty() => Some(Command::Load(rest)),
-        "cut" => Some(Command::Cut(unsigned(rest)?)),
+        "cut" => Some(Command::Cut(number(rest)?)),
         "byte" => {
             let (at, value) = byte_in(rest)?;
             Some(Command::Byte(at, value))
@@ -91,16 +82,9 @@ fn alone<'a>(line: &str) -> Option<Command<'a>> {
     }
 }
 
-pub(crate) fn command_in(line: &str) -> Command<'_> {
-    let command = match line.split_once(' ') {
-        Some((word, rest)) => match on_store(word, rest) {
-            Some(command) => Some(command),
-            None => on_image(word, rest),
-        },
+pub(crate) fn command_in(line: &str) -> Option<Command<'_>> {
+    match line.split_once(' ') {
+        Some((word, rest)) => on_store(word, rest).or(on_image(word, rest)),
         None => alone(line),
-    };
-    match command {
-        Some(command) => command,
-        None => Command::Unknown,
     }
 }

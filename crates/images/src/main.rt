@@ -191,7 +191,10 @@ fn damaged(
     read_all(rt, bench, bytes.as_slice())
 }
 
-fn step(rt: &HostRuntime, bench: &mut Bench, command: Command) -> io::Result<()> {
+fn step(rt: &HostRuntime, bench: &mut Bench, command: Option<Command>) -> io::Result<()> {
+    let Some(command) = command else {
+        return println!(rt; "not a command");
+    };
     match command {
         Command::Say(text) => println!(rt; "{text}"),
         Command::Clear => {
@@ -220,14 +223,13 @@ fn step(rt: &HostRuntime, bench: &mut Bench, command: Command) -> io::Result<()>
         Command::Cut(length) => damaged(rt, bench, length as usize, None),
         Command::Byte(at, value) => damaged(rt, bench, usize::MAX, Some((at, value))),
         Command::Load(text) => load(rt, bench, text),
-        Command::Unknown => println!(rt; "not a command"),
     }
 }
 
 fn on_line(rt: &HostRuntime, bench: &mut Bench, line: &[u8]) -> io::Result<()> {
     let command = match std::str::from_utf8(line) {
         Ok(text) => command_in(text),
-        Err(_) => Command::Unknown,
+        Err(_) => None,
     };
     step(rt, bench, command)
 }

@@ -1,33 +1,18 @@
 // Numbers, edits and measures as text.
 #![tactic(auto)]
 
-ghost use Rattle.std.specs.Prelude.{◌≡◌, ℕ, ℤ, pos, ◌-ℤ◌, IfOk, string_bytes, MatchOption};
-ghost use Rattle.text.specs.Written.{Written, WrittenPlain, hex_value, in_millimetres};
+pub mod edits;
+pub mod numbers;
 
-use sheet::Edit;
+ghost use Rattle.std.specs.Prelude.{◌≡◌, pos, ◌-ℤ◌, IfOk, string_bytes};
+ghost use Rattle.text.specs.Written.{hex_value, in_millimetres};
+
+pub use edits::{edit_in, plain_edit_in};
+pub use numbers::{Numeral, cut, first, number};
 use std::alloc::{AllocError, Global};
 
-// The number that the word writes: digits, with at most one minus sign before them.
-pub fn number(word: &str) -> Option<i32>
-    ensures { MatchOption result ((z : ℤ) → Written word.now z → ⊥) (λ z. Written word.now z) }
-{
-    match word.as_bytes() {
-        [b'+', ..] => None,
-        _ => word.parse::<i32>().ok(),
-    }
-}
-
-// The number that the word writes: digits alone.
-pub fn unsigned(word: &str) -> Option<u32>
-    ensures { MatchOption result ((n : ℕ) → WrittenPlain word.now n → ⊥) (λ n. WrittenPlain word.now n) }
-{
-    match word.as_bytes() {
-        [b'+', ..] => None,
-        _ => word.parse::<u32>().ok(),
-    }
-}
-
 // The value of a hexadecimal digit: 0 to 9, a to f.
+// Kept: `to_digit` takes the capital letters too.
 pub fn hex_digit(digit: u8) -> Option<u8>
     ensures { result ≡ hex_value digit }
 {
@@ -35,26 +20,6 @@ pub fn hex_digit(digit: u8) -> Option<u8>
         b'0'..=b'9' => Some(digit - b'0'),
         b'a'..=b'f' => Some(digit - b'a' + 10),
         _ => None,
-    }
-}
-
-// The edit that the line writes: kind, row, size, a and q, one space apart.
-pub fn edit_in(line: &str) -> Option<Edit> {
-    let mut words = line.split(' ');
-    let kind = u16::try_from(number(words.next()?)?).ok()?;
-    let row = number(words.next()?)?;
-    let size = number(words.next()?)?;
-    let a = number(words.next()?)?;
-    let q = number(words.next()?)?;
-    match words.next() {
-        Some(_) => None,
-        None => Some(Edit {
-            kind,
-            row,
-            size,
-            a,
-            q,
-        }),
     }
 }
 

@@ -1,6 +1,6 @@
 // The commands of a script.
 use sheet::Edit;
-use text::{edit_in, number};
+use text::{edit_in, first, number};
 
 #[derive(Clone, Copy)]
 pub enum Command<'a> {
@@ -14,46 +14,42 @@ pub enum Command<'a> {
     Mark,
     Same,
     Seam(i32, i32),
-    Unknown,
 }
 
 // Two numbers, one space apart.
 fn pair_in(text: &str) -> Option<(i32, i32)> {
-    let (first, second) = text.split_once(' ')?;
-    Some((number(first)?, number(second)?))
+    let (one, rest) = first(text)?;
+    Some((one, number(rest)?))
 }
 
-fn with_words<'a>(word: &'a str, rest: &'a str) -> Command<'a> {
+fn with_words<'a>(word: &str, rest: &'a str) -> Option<Command<'a>> {
     match word {
-        "say" => Command::Say(rest),
-        "edit" => match edit_in(rest) {
-            Some(edit) => Command::Apply(edit),
-            None => Command::Unknown,
-        },
-        "cell" => match pair_in(rest) {
-            Some((row, size)) => Command::Cell(row, size),
-            None => Command::Unknown,
-        },
-        "seam" => match pair_in(rest) {
-            Some((first, second)) => Command::Seam(first, second),
-            None => Command::Unknown,
-        },
-        _ => Command::Unknown,
+        "say" => Some(Command::Say(rest)),
+        "edit" => Some(Command::Apply(edit_in(rest)?)),
+        "cell" => {
+            let (row, size) = pair_in(rest)?;
+            Some(Command::Cell(row, size))
+        }
+        "seam" => {
+            let (first, second) = pair_in(rest)?;
+            Some(Command::Seam(first, second))
+        }
+        _ => None,
     }
 }
 
-pub(crate) fn command_in(line: &str) -> Command<'_> {
+pub(crate) fn command_in(line: &str) -> Option<Command<'_>> {
     if let Some((word, rest)) = line.split_once(' ') {
         return with_words(word, rest);
     }
     match line {
-        "say" => Command::Say(""),
-        "undo" => Command::Undo,
-        "settle" => Command::Settle,
-        "reset" => Command::Reset,
-        "show" => Command::Show,
-        "mark" => Command::Mark,
-        "same" => Command::Same,
-        _ => Command::Unknown,
+        "say" => Some(Command::Say("")),
+        "undo" => Some(Command::Undo),
+        "settle" => Some(Command::Settle),
+        "reset" => Some(Command::Reset),
+        "show" => Some(Command::Show),
+        "mark" => Some(Command::Mark),
+        "same" => Some(Command::Same),
+        _ => None,
     }
 }

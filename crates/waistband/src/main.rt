@@ -84,8 +84,11 @@ fn step<M: StateMachine>(
     rt: &HostRuntime,
     machine: &mut M,
     marked: &mut Cells,
-    command: Command,
+    command: Option<Command>,
 ) -> io::Result<()> {
+    let Some(command) = command else {
+        return println!(rt; "not a command");
+    };
     match command {
         Command::Say(text) => println!(rt; "{text}"),
         Command::Apply(edit) => refused(rt, machine.apply(edit)),
@@ -103,7 +106,6 @@ fn step<M: StateMachine>(
         }
         Command::Same => compare(rt, marked, &cells_of(machine)),
         Command::Seam(first, second) => show_seam(rt, seam(machine, first, second)),
-        Command::Unknown => println!(rt; "not a command"),
     }
 }
 
@@ -112,7 +114,7 @@ fn run<M: StateMachine>(rt: &HostRuntime, machine: &mut M, lines: &[Vec<u8>]) ->
     for line in lines {
         let command = match std::str::from_utf8(line.as_slice()) {
             Ok(text) => command_in(text),
-            Err(_) => Command::Unknown,
+            Err(_) => None,
         };
         step(rt, machine, &mut marked, command)?;
     }

@@ -1,5 +1,6 @@
 use Rattle.std.proofs.Common.{ℕ, List, subst}
-use Rattle.command.specs.Grammar.{Finds, Reads}
+use Rattle.text.specs.Words.{Finds}
+use Rattle.command.specs.Grammar.{Reads}
 use Rattle.command.proofs.Lines.{reads_utf8}
 use Rattle.command.proofs.Sole.{only}
 use Rattle.command.proofs.read.command_in.Goals as goal

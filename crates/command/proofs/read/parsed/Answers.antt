@@ -1,5 +1,5 @@
-use Rattle.command.proofs.Splits.{none_cut}
-use Rattle.command.proofs.Lines.{any_count}
+use Rattle.text.proofs.Splits.{none_cut}
+use Rattle.command.proofs.Lines.{cut_reads}
 use Rattle.command.proofs.read.parsed.Goals as goal
 
 pub returns-in_err-name : goal.returns-in_err-name
@@ -8,4 +8,4 @@ returns-in_err-name c = rw c.from_residual.ensures (λ x w. none_cut c.args.text
 pub returns : goal.returns
 returns c =
     let s = c.in_ok-name.ensures in
-    rw (c.or-2.ensures, c.or.ensures, c.or-few.ensures) (any_count c.args.text.now c.in_ok-name.name.now c.in_ok-name.rest.now s.0 s.1 c.of_one.result c.of_two.result c.of_three.result c.of_six.result c.of_one.ensures c.of_two.ensures c.of_three.ensures c.of_six.ensures)
+    cut_reads c.args.text.now c.in_ok-name.name.now c.in_ok-name.rest.now s.0 s.1 c.named.result c.named.ensures

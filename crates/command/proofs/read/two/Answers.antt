@@ -1,9 +1,10 @@
-use Rattle.command.specs.Grammar.{Number}
-use Rattle.command.proofs.Splits.{after_number}
+use Rattle.text.specs.Words.{Number}
+use Rattle.text.specs.Numerals.{number_visible}
+use Rattle.text.proofs.Splits.{after}
 use Rattle.command.proofs.read.two.Goals as goal
 
 pub returns-in_err-a : goal.returns-in_err-a
-returns-in_err-a c = rw c.from_residual.ensures (λ a b w. c.in_err-a.ensures a w.1 (w.0, w.2, w.3))
+returns-in_err-a c = rw c.from_residual.ensures (λ x w. c.in_err-a.ensures x.0 w.1 (w.0, w.2, w.3))
 
-pub returns-in_err-unsigned : goal.returns-in_err-unsigned
-returns-in_err-unsigned c = rw c.from_residual-in_err-unsigned.ensures (λ a b w. c.in_err-unsigned.ensures b (after_number c.in_ok-a.a a (Number b) c.args.text.now c.in_ok-a.rest.now c.in_ok-a.ensures w))
+pub returns-in_err-number : goal.returns-in_err-number
+returns-in_err-number c = rw c.from_residual-in_err-number.ensures (λ x w. c.in_err-number.ensures x.1 (after Number number_visible c.in_ok-a.a x.0 (Number x.1) c.args.text.now c.in_ok-a.rest.now c.in_ok-a.ensures w))
