@@ -1,6 +1,6 @@
 -- What a node means: one of the protocol's servers.
 use Rattle.std.specs.Prelude.{◌≡◌, ℕ, false, List, slice_index_or}
-use Rattle.store.specs.Stores.{StoreState}
+use Rattle.store.specs.declared.Store.{Ghosts}
 use Rattle.protocol.specs.declared.ServerId.{ServerId}
 use Rattle.protocol.specs.declared.ServerId.TheVariants.{One, Two, Three}
 use Rattle.protocol.specs.State.{Server}
@@ -20,14 +20,14 @@ of3 d xs k = slice_index_or xs (place k) d
 abbrev pub unknown : Progress
 unknown = record { next = 0; matched = 0 }
 
-module _ {S : Type 0} (meaning : S → StoreState) where
+module _ {S : Type 0} (s : Ghosts S) where
   abbrev pub server_of : Node S → Server
   server_of n = record {
     up = n.up;
-    term = (meaning n.store).term;
-    vote = (meaning n.store).vote;
-    log = (meaning n.store).entries;
-    durable = (meaning n.store).durable;
+    term = (s.meaning n.store).term;
+    vote = (s.meaning n.store).vote;
+    log = (s.meaning n.store).entries;
+    durable = (s.meaning n.store).durable;
     role = n.role;
     voters = of3 false n.voters;
     next = λ k. (of3 unknown n.progress k).next;

@@ -38,7 +38,7 @@ pub fn two_of(votes: [bool; 3]) -> bool
 
 impl<S: Store + Drop> Node<S> {
     fn take_term(&mut self, term: u32)
-        ensures { Goes S.Store.meaning self.old (taken term) self.new }
+        ensures { Goes S.Store self.old (taken term) self.new }
     {
         self.store.set(term, 0);
         self.role = Role::Follower;
@@ -47,7 +47,7 @@ impl<S: Store + Drop> Node<S> {
 
     // Takes a higher term.
     pub fn catch_up(&mut self, term: u32)
-        ensures { Goes S.Store.meaning self.old (caught_up term) self.new }
+        ensures { Goes S.Store self.old (caught_up term) self.new }
     {
         if self.store.term() < term {
             self.take_term(term);
@@ -55,9 +55,9 @@ impl<S: Store + Drop> Node<S> {
     }
 
     fn stand(&mut self, me: ServerId, term: u32)
-        requires store_value { (S.Store.meaning self.old.store).term ≡ term }
+        requires store_value { (server_of S.Store self.old).term ≡ term }
         requires term_bound { term < LAST_TERM }
-        ensures { Goes S.Store.meaning self.old (stood_for me) self.new }
+        ensures { Goes S.Store self.old (stood_for me) self.new }
     {
         self.store.set(term + 1, u16::from(me));
         self.role = Role::Candidate;
@@ -67,7 +67,7 @@ impl<S: Store + Drop> Node<S> {
     }
 
     fn vote_request(&self, me: ServerId, receiver: ServerId) -> Message
-        ensures { result ≡ vote_request me (server_of S.Store.meaning self.now) receiver }
+        ensures { result ≡ vote_request me (server_of S.Store self.now) receiver }
     {
         Message {
             from: me,
@@ -79,8 +79,8 @@ impl<S: Store + Drop> Node<S> {
 
     // Takes the next term and stands in it, with two vote requests.
     pub fn campaign(&mut self, me: ServerId) -> Result<(Message, Message), Refusal>
-        ensures says { told result ≡ stand_answer me (server_of S.Store.meaning self.old) }
-        ensures after { Goes S.Store.meaning self.old (campaigns me) self.new }
+        ensures says { told result ≡ stand_answer me (server_of S.Store self.old) }
+        ensures after { Goes S.Store self.old (campaigns me) self.new }
     {
         if !self.up {
             return Err(Refusal::ServerDown);
@@ -98,14 +98,14 @@ impl<S: Store + Drop> Node<S> {
     }
 
     fn grants(&self, from: ServerId, term: u32, pair: (u32, u32)) -> bool
-        ensures { result ≡ grants (server_of S.Store.meaning self.now) from term pair }
+        ensures { result ≡ grants (server_of S.Store self.now) from term pair }
     {
         term == self.store.term()
             && (may_vote(self.store.vote(), from) && not_below(pair, self.pair()))
     }
 
     fn vote_for(&mut self, candidate: ServerId)
-        ensures { Goes S.Store.meaning self.old (votes_for candidate) self.new }
+        ensures { Goes S.Store self.old (votes_for candidate) self.new }
     {
         let term = self.store.term();
         self.store.set(term, u16::from(candidate));
@@ -119,8 +119,8 @@ impl<S: Store + Drop> Node<S> {
         term: u32,
         pair: (u32, u32),
     ) -> Message
-        ensures after { server_of S.Store.meaning self.new ≡ hears_vote_request (server_of S.Store.meaning self.old) from term pair }
-        ensures says { result ≡ vote_reply (server_of S.Store.meaning self.old) from to term pair }
+        ensures after { server_of S.Store self.new ≡ hears_vote_request (server_of S.Store self.old) from term pair }
+        ensures says { result ≡ vote_reply (server_of S.Store self.old) from to term pair }
     {
         let own = self.store.term();
         if self.grants(from, term, pair) {
@@ -142,13 +142,13 @@ impl<S: Store + Drop> Node<S> {
     }
 
     fn count(&mut self, voter: ServerId)
-        ensures { Goes S.Store.meaning self.old (counts voter) self.new }
+        ensures { Goes S.Store self.old (counts voter) self.new }
     {
         self.voters[place_of(voter)] = true;
     }
 
     fn win(&mut self)
-        ensures { Goes S.Store.meaning self.old wins self.new }
+        ensures { Goes S.Store self.old wins self.new }
     {
         let next = self.len() + 1;
         self.role = Role::Leader;
@@ -157,7 +157,7 @@ impl<S: Store + Drop> Node<S> {
 
     // Counts a vote; with two it leads.
     fn tally(&mut self, from: ServerId)
-        ensures { Goes S.Store.meaning self.old (tallied from) self.new }
+        ensures { Goes S.Store self.old (tallied from) self.new }
     {
         self.count(from);
         if two_of(self.voters) {
@@ -166,7 +166,7 @@ impl<S: Store + Drop> Node<S> {
     }
 
     pub fn hear_vote_reply(&mut self, from: ServerId, term: u32, ok: bool)
-        ensures { server_of S.Store.meaning self.new ≡ hears_vote_reply (server_of S.Store.meaning self.old) from term ok }
+        ensures { server_of S.Store self.new ≡ hears_vote_reply (server_of S.Store self.old) from term ok }
     {
         if ok && (term == self.store.term() && self.role == Role::Candidate) {
             self.tally(from);

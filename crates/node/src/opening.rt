@@ -11,7 +11,7 @@ use store::Store;
 impl<S: Store + Drop> Node<S> {
     // Clears the store. Every server opens alike.
     pub fn open(mut store: S) -> Self
-        ensures { server_of S.Store.meaning result ≡ core_opening.server One }
+        ensures { server_of S.Store result ≡ core_opening.server One }
     {
         store.clear();
         Node {

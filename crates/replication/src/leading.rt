@@ -13,7 +13,7 @@ use store::Store;
 
 // The append request to a receiver: the entry before next, the commit, and entry next if it is held.
 pub fn append_request<S: Store + Drop>(node: &Node<S>, me: ServerId, receiver: ServerId) -> Message
-    ensures { result ≡ append_request me (server_of S.Store.meaning node.now) receiver }
+    ensures { result ≡ append_request me (server_of S.Store node.now) receiver }
 {
     let previous = node.progress[place_of(receiver)].next.saturating_sub(1);
     Message {
@@ -31,13 +31,13 @@ pub fn append_request<S: Store + Drop>(node: &Node<S>, me: ServerId, receiver: S
 
 // Notes next and match of a server.
 fn note<S: Store + Drop>(node: &mut Node<S>, server: ServerId, progress: Progress)
-    ensures { Goes S.Store.meaning node.old (notes server progress.next progress.matched) node.new }
+    ensures { Goes S.Store node.old (notes server progress.next progress.matched) node.new }
 {
     node.progress[place_of(server)] = progress;
 }
 
 fn got_yes<S: Store + Drop>(node: &mut Node<S>, server: ServerId, agreed: u16)
-    ensures { Goes S.Store.meaning node.old (got_yes server agreed) node.new }
+    ensures { Goes S.Store node.old (got_yes server agreed) node.new }
 {
     let Progress { next, matched } = node.progress[place_of(server)];
     let matched = matched.max(agreed);
@@ -46,7 +46,7 @@ fn got_yes<S: Store + Drop>(node: &mut Node<S>, server: ServerId, agreed: u16)
 }
 
 fn got_no<S: Store + Drop>(node: &mut Node<S>, server: ServerId)
-    ensures { Goes S.Store.meaning node.old (got_no server) node.new }
+    ensures { Goes S.Store node.old (got_no server) node.new }
 {
     let Progress { next, matched } = node.progress[place_of(server)];
     let next = next.saturating_sub(1).max(matched as u32 + 1);
@@ -54,7 +54,7 @@ fn got_no<S: Store + Drop>(node: &mut Node<S>, server: ServerId)
 }
 
 fn got_reply<S: Store + Drop>(node: &mut Node<S>, from: ServerId, agreed: Option<u16>)
-    ensures { Goes S.Store.meaning node.old (got_reply from agreed) node.new }
+    ensures { Goes S.Store node.old (got_reply from agreed) node.new }
 {
     match agreed {
         Some(agreed) => got_yes(node, from, agreed),
@@ -64,7 +64,7 @@ fn got_reply<S: Store + Drop>(node: &mut Node<S>, from: ServerId, agreed: Option
 
 // How far a server is known to hold the log of the leader `me`.
 fn known<S: Store + Drop>(node: &Node<S>, me: ServerId, server: ServerId) -> usize
-    ensures { result ≡ known_of me (server_of S.Store.meaning node.now) server }
+    ensures { result ≡ known_of me (server_of S.Store node.now) server }
 {
     if server == me {
         node.store.durable()
@@ -74,21 +74,21 @@ fn known<S: Store + Drop>(node: &Node<S>, me: ServerId, server: ServerId) -> usi
 }
 
 fn two_hold<S: Store + Drop>(node: &Node<S>, me: ServerId, number: usize) -> bool
-    ensures { result ≡ two_hold me (server_of S.Store.meaning node.now) number }
+    ensures { result ≡ two_hold me (server_of S.Store node.now) number }
 {
     two_of(ServerId::ALL.map(|server| number <= known(node, me, server)))
 }
 
 // Whether the entry that `i` others stand before is of the own term, and two servers hold it.
 fn may_commit<S: Store + Drop>(node: &Node<S>, me: ServerId, i: u32) -> bool
-    ensures { result ≡ (term_at (S.Store.meaning node.now.store).entries i == (S.Store.meaning node.now.store).term && two_hold me (server_of S.Store.meaning node.now) (suc i)) }
+    ensures { result ≡ (term_at (server_of S.Store node.now).log i == (server_of S.Store node.now).term && two_hold me (server_of S.Store node.now) (suc i)) }
 {
     node.term_at(i) == node.store.term() && two_hold(node, me, i as usize + 1)
 }
 
 // The largest number whose entry is of the own term and which two servers hold, or 0.
 fn top_held<S: Store + Drop>(node: &Node<S>, me: ServerId) -> u32
-    ensures { result ≡ top me (server_of S.Store.meaning node.now) (length (S.Store.meaning node.now.store).entries) }
+    ensures { result ≡ top me (server_of S.Store node.now) (length (server_of S.Store node.now).log) }
 {
     (0..node.len())
         .rev()
@@ -98,7 +98,7 @@ fn top_held<S: Store + Drop>(node: &Node<S>, me: ServerId) -> u32
 
 // Raises the leader's commit.
 pub fn raise<S: Store + Drop>(node: &mut Node<S>, me: ServerId)
-    ensures { Goes S.Store.meaning node.old (raises me) node.new }
+    ensures { Goes S.Store node.old (raises me) node.new }
 {
     let number = top_held(node, me);
     node.commit = node.commit.max(number);
@@ -106,7 +106,7 @@ pub fn raise<S: Store + Drop>(node: &mut Node<S>, me: ServerId)
 
 // A reply counts at a leader of its term.
 pub fn hear_reply<S: Store + Drop>(node: &mut Node<S>, message: Message, agreed: Option<u16>)
-    ensures { Goes S.Store.meaning node.old (hears_reply message.from message.to message.term agreed) node.new }
+    ensures { Goes S.Store node.old (hears_reply message.from message.to message.term agreed) node.new }
 {
     if message.term == node.store.term() && node.role == Role::Leader {
         got_reply(node, message.from, agreed);
@@ -116,7 +116,7 @@ pub fn hear_reply<S: Store + Drop>(node: &mut Node<S>, message: Message, agreed:
 
 // Makes every entry durable.
 pub fn sync_log<S: Store + Drop>(node: &mut Node<S>)
-    ensures { Goes S.Store.meaning node.old syncs node.new }
+    ensures { Goes S.Store node.old syncs node.new }
 {
     node.store.sync();
 }

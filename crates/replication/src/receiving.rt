@@ -10,20 +10,20 @@ use store::{MAX_ENTRIES, Store};
 
 // Whether the first `previous` entries are held, the last of them of this term.
 fn reaches_to<S: Store + Drop>(node: &Node<S>, previous: u32, term: u32) -> bool
-    ensures { result ≡ reaches (S.Store.meaning node.now.store).entries previous term }
+    ensures { result ≡ reaches (server_of S.Store node.now).log previous term }
 {
     previous <= node.len() && node.tip(previous) == term
 }
 
 fn follow<S: Store + Drop>(node: &mut Node<S>)
-    ensures { Goes S.Store.meaning node.old follows node.new }
+    ensures { Goes S.Store node.old follows node.new }
 {
     node.role = Role::Follower;
 }
 
 // Syncs the log as it is. The logs agree through `agreed`, and the sender's commit is `commit`.
 fn hold<S: Store + Drop>(node: &mut Node<S>, agreed: u32, commit: u32)
-    ensures { Goes S.Store.meaning node.old (λ s. accepts s.log s.applied agreed commit s) node.new }
+    ensures { Goes S.Store node.old (λ s. accepts s.log s.applied agreed commit s) node.new }
 {
     node.store.sync();
     node.role = Role::Follower;
@@ -32,8 +32,8 @@ fn hold<S: Store + Drop>(node: &mut Node<S>, agreed: u32, commit: u32)
 
 // Appends an entry, and syncs.
 fn append<S: Store + Drop>(node: &mut Node<S>, agreed: u32, commit: u32, entry: Entry)
-    requires { length (S.Store.meaning node.old.store).entries < MAX_ENTRIES }
-    ensures { Goes S.Store.meaning node.old (λ s. accepts (s.log ++ entry ∷ []) s.applied agreed commit s) node.new }
+    requires { length (server_of S.Store node.old).log < MAX_ENTRIES }
+    ensures { Goes S.Store node.old (λ s. accepts (s.log ++ entry ∷ []) s.applied agreed commit s) node.new }
 {
     let _ = node.store.append(entry);
     hold(node, agreed, commit);
@@ -47,8 +47,8 @@ fn replace<S: Store + Drop>(
     commit: u32,
     entry: Entry,
 )
-    requires { previous < length (S.Store.meaning node.old.store).entries }
-    ensures { Goes S.Store.meaning node.old (λ s. accepts (take previous s.log ++ entry ∷ []) (min s.applied previous) agreed commit s) node.new }
+    requires { previous < length (server_of S.Store node.old).log }
+    ensures { Goes S.Store node.old (λ s. accepts (take previous s.log ++ entry ∷ []) (min s.applied previous) agreed commit s) node.new }
 {
     let _ = node.store.truncate(previous as usize);
     node.applied = node.applied.min(previous);
@@ -62,8 +62,8 @@ fn accept<S: Store + Drop>(
     commit: u32,
     entry: Entry,
 ) -> Option<u16>
-    ensures after { Goes S.Store.meaning node.old (accepted previous commit entry) node.new }
-    ensures says { result ≡ accepted_to previous entry (server_of S.Store.meaning node.old) }
+    ensures after { Goes S.Store node.old (accepted previous commit entry) node.new }
+    ensures says { result ≡ accepted_to previous entry (server_of S.Store node.old) }
 {
     if previous as usize >= MAX_ENTRIES {
         follow(node);
@@ -89,9 +89,9 @@ fn accept<S: Store + Drop>(
 
 // At most one entry; with none, only syncing and commit are left.
 fn take_in<S: Store + Drop>(node: &mut Node<S>, append: AppendEntries) -> Option<u16>
-    requires { append.previous ≤ length (S.Store.meaning node.old.store).entries }
-    ensures after { Goes S.Store.meaning node.old (took_it append.previous append.commit append.entry) node.new }
-    ensures says { result ≡ took_to append.previous append.entry (server_of S.Store.meaning node.old) }
+    requires { append.previous ≤ length (server_of S.Store node.old).log }
+    ensures after { Goes S.Store node.old (took_it append.previous append.commit append.entry) node.new }
+    ensures says { result ≡ took_to append.previous append.entry (server_of S.Store node.old) }
 {
     match append.entry {
         None => {
@@ -103,7 +103,7 @@ fn take_in<S: Store + Drop>(node: &mut Node<S>, append: AppendEntries) -> Option
 }
 
 fn no_to<S: Store + Drop>(node: &Node<S>, from: ServerId, to: ServerId) -> Message
-    ensures { result ≡ no_to from to (server_of S.Store.meaning node.now) }
+    ensures { result ≡ no_to from to (server_of S.Store node.now) }
 {
     Message {
         from: to,
@@ -119,8 +119,8 @@ pub fn hear_append<S: Store + Drop>(
     message: Message,
     append: AppendEntries,
 ) -> Option<Message>
-    ensures after { Goes S.Store.meaning node.old (hears_append message.term append) node.new }
-    ensures says { result ≡ append_reply message.from message.to message.term append (server_of S.Store.meaning node.old) }
+    ensures after { Goes S.Store node.old (hears_append message.term append) node.new }
+    ensures says { result ≡ append_reply message.from message.to message.term append (server_of S.Store node.old) }
 {
     if message.term != node.store.term() {
         return Some(no_to(node, message.from, message.to));

@@ -9,7 +9,7 @@ use Rattle.replication.proofs.leading.top_held.Goals as goal
 
 pub returns : goal.returns
 returns g c =
-    let s = server_of g.S.Store.meaning c.args.node.now in
+    let s = server_of g.S.Store c.args.node.now in
     let j = c.args.me in
     let n = length s.log in
     let start : c.rev.result.iter.start ≡ 0 = cc in
