@@ -6,12 +6,11 @@ ghost use Rattle.buffered_store.specs.Layers.{Fits, Joined, CrashedBelow, over, 
 ghost use Rattle.buffered_store.specs.Buffered.{layered, buffered};
 ghost use Rattle.buffered_store.specs.Extending.{extended_sound};
 
-use super::handing::{hand_down, make_room};
 use super::{BufferedStore, MAX_HELD};
 use record::Entry;
 use refusal::Refusal;
-use std::alloc::{AllocFailed, Global};
-use store::{MAX_ENTRIES, Store};
+use std::alloc::{AllocError, AllocFailed, Global};
+use store::{MAX_ENTRIES, OpensEmpty, Store};
 
 impl<S: Store> BufferedStore<S> {
     // A layer over this store, which comes back where there is no memory.
@@ -41,6 +40,12 @@ impl<S: Store> BufferedStore<S> {
         ensures joined { Fits (layered S.Store.meaning self.now) → Joined (layered S.Store.meaning self.now) }
     {
         self.own.as_slice()
+    }
+}
+
+impl<S: OpensEmpty + Drop> OpensEmpty for BufferedStore<S> {
+    fn open_empty(heap: Global) -> Result<Self, AllocError> {
+        Ok(BufferedStore::open(heap, S::open_empty(heap)?)?)
     }
 }
 
@@ -75,7 +80,7 @@ impl<S: Store> Store for BufferedStore<S> {
         if self.len() >= MAX_ENTRIES {
             return Err(Refusal::OutOfBounds);
         }
-        make_room(&mut self.below, &mut self.own);
+        self.make_room();
         self.own.push_reserved(entry);
         Ok(())
     }
@@ -103,7 +108,7 @@ impl<S: Store> Store for BufferedStore<S> {
         ensures layer { layered S.Store.meaning self.new ≡ synced_below (layered S.Store.meaning self.old) }
         ensures joined { Joined (layered S.Store.meaning self.new) }
     {
-        hand_down(&mut self.below, &mut self.own);
+        self.hand_down();
         self.below.sync();
     }
 

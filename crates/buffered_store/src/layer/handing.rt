@@ -1,8 +1,9 @@
 // Handing entries down to a store.
-ghost use Rattle.std.specs.Prelude.{◌≡◌, ◌<◌, [], length, vec_capacity};
-ghost use Rattle.buffered_store.specs.Layers.{extended, with_room};
+ghost use Rattle.std.specs.Prelude.{◌≡◌, ◌<◌, length};
+ghost use Rattle.buffered_store.specs.Layers.{extended, over, whole, with_room};
+ghost use Rattle.buffered_store.specs.Buffered.{layered};
 
-use super::MAX_HELD;
+use super::{BufferedStore, MAX_HELD};
 use record::Entry;
 use store::Store;
 
@@ -15,23 +16,22 @@ fn append_all<S: Store>(below: &mut S, entries: &[Entry])
     }
 }
 
-// Hands all entries down.
-pub(crate) fn hand_down<S: Store>(below: &mut S, own: &mut Vec<Entry>)
-    ensures below { S.meaning below.new ≡ extended own.old.items (S.meaning below.old) }
-    ensures own { own.new.items ≡ [] }
-    ensures capacity { vec_capacity own.new ≡ vec_capacity own.old }
-{
-    append_all(below, own);
-    own.clear();
-}
+impl<S: Store> BufferedStore<S> {
+    // Hands all entries down.
+    pub(crate) fn hand_down(&mut self)
+        ensures { layered S.Store.meaning self.new ≡ over (whole (layered S.Store.meaning self.old)) }
+    {
+        append_all(&mut self.below, &self.own);
+        self.own.clear();
+    }
 
-// Hands all entries down where as many are held back as may be.
-pub(crate) fn make_room<S: Store>(below: &mut S, own: &mut Vec<Entry>)
-    ensures layer { record { below = S.meaning below.exit.now; own = own.new.items } ≡ with_room (record { below = S.meaning below.entry.now; own = own.old.items }) }
-    ensures room { length own.new.items < 8 }
-    ensures capacity { vec_capacity own.new ≡ vec_capacity own.old }
-{
-    if own.len() >= MAX_HELD {
-        hand_down(below, own);
+    // Hands all entries down where as many are held back as may be.
+    pub(crate) fn make_room(&mut self)
+        ensures layer { layered S.Store.meaning self.new ≡ with_room (layered S.Store.meaning self.old) }
+        ensures room { length (layered S.Store.meaning self.new).own < 8 }
+    {
+        if self.own.len() >= MAX_HELD {
+            self.hand_down();
+        }
     }
 }
