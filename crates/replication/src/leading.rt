@@ -1,13 +1,13 @@
 // A leader: its append requests, the replies to them, and its commit.
 ghost use Rattle.std.specs.Prelude.{◌≡◌, suc, ◌&&◌, length, ◌==◌};
 ghost use Rattle.protocol.specs.State.{term_at};
-ghost use Rattle.protocol.specs.AppendEntries.{append_request, notes, got_yes, got_no, got_reply, known as known_of, two_hold, top, raises, hears_reply};
+ghost use Rattle.protocol.specs.AppendEntries.{append_request, got_yes, got_no, got_reply, known as known_of, two_hold, top, raises, hears_reply};
 ghost use Rattle.protocol.specs.Rules.{syncs};
 ghost use Rattle.node.specs.Meaning.{server_of, Goes};
 
+use node::Node;
 use node::elections::two_of;
 use node::ids::place_of;
-use node::{Node, Progress};
 use protocol::{AppendEntries, Body, Message, Role, ServerId};
 use store::Store;
 
@@ -29,28 +29,22 @@ pub fn append_request<S: Store + Drop>(node: &Node<S>, me: ServerId, receiver: S
     }
 }
 
-// Notes next and match of a server.
-fn note<S: Store + Drop>(node: &mut Node<S>, server: ServerId, progress: Progress)
-    ensures { Goes S.Store node.old (notes server progress.next progress.matched) node.new }
-{
-    node.progress[place_of(server)] = progress;
-}
-
 fn got_yes<S: Store + Drop>(node: &mut Node<S>, server: ServerId, agreed: u16)
     ensures { Goes S.Store node.old (got_yes server agreed) node.new }
 {
-    let Progress { next, matched } = node.progress[place_of(server)];
-    let matched = matched.max(agreed);
-    let next = next.max(matched as u32 + 1);
-    note(node, server, Progress { next, matched });
+    let progress = &mut node.progress[place_of(server)];
+    progress.matched = progress.matched.max(agreed);
+    progress.next = progress.next.max(progress.matched as u32 + 1);
 }
 
 fn got_no<S: Store + Drop>(node: &mut Node<S>, server: ServerId)
     ensures { Goes S.Store node.old (got_no server) node.new }
 {
-    let Progress { next, matched } = node.progress[place_of(server)];
-    let next = next.saturating_sub(1).max(matched as u32 + 1);
-    note(node, server, Progress { next, matched });
+    let progress = &mut node.progress[place_of(server)];
+    progress.next = progress
+        .next
+        .saturating_sub(1)
+        .max(progress.matched as u32 + 1);
 }
 
 fn got_reply<S: Store + Drop>(node: &mut Node<S>, from: ServerId, agreed: Option<u16>)
@@ -81,14 +75,14 @@ fn two_hold<S: Store + Drop>(node: &Node<S>, me: ServerId, number: usize) -> boo
 
 // Whether the entry that `i` others stand before is of the own term, and two servers hold it.
 fn may_commit<S: Store + Drop>(node: &Node<S>, me: ServerId, i: u32) -> bool
-    ensures { result ≡ (term_at (server_of S.Store node.now).log i == (server_of S.Store node.now).term && two_hold me (server_of S.Store node.now) (suc i)) }
+    ensures { let s = server_of S.Store node.now in result ≡ (term_at s.log i == s.term && two_hold me s (suc i)) }
 {
     node.term_at(i) == node.store.term() && two_hold(node, me, i as usize + 1)
 }
 
 // The largest number whose entry is of the own term and which two servers hold, or 0.
 fn top_held<S: Store + Drop>(node: &Node<S>, me: ServerId) -> u32
-    ensures { result ≡ top me (server_of S.Store node.now) (length (server_of S.Store node.now).log) }
+    ensures { let s = server_of S.Store node.now in result ≡ top me s (length s.log) }
 {
     (0..node.len())
         .rev()
