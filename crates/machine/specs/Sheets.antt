@@ -18,7 +18,7 @@ steps_back s (u ∷ us) = s ∷ steps_back (put_back s u) us
 
 -- The undo machine has the newest sheet and the replaced rows, oldest first.
 unfoldable pub undo_states : UndoMachine → List (List (List ℕ))
-undo_states m = steps_back (cells_of m.newest) (reverse (vec_items m.replaced))
+undo_states m = steps_back (cells_of m.newest) (reverse (vec_items m.replaced.items))
 
 -- the states after some edits more
 abbrev pub steps_on : List (List (List ℕ)) → List Edit → List (List (List ℕ))
@@ -28,4 +28,4 @@ steps_on (s ∷ ss) (e ∷ es) = steps_on (next s e ∷ s ∷ ss) es
 
 -- The replay machine has the oldest sheet and the open edits, oldest first.
 unfoldable pub replay_states : ReplayMachine → List (List (List ℕ))
-replay_states m = steps_on (cells_of m.oldest ∷ []) (vec_items m.edits)
+replay_states m = steps_on (cells_of m.oldest ∷ []) (vec_items m.edits.items)

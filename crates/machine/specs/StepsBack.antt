@@ -1,5 +1,5 @@
 -- Replaced rows put back, one after the other.
-use Rattle.std.specs.Prelude.{◌≡◌, ℕ, suc, ◌+◌, ◌<◌, true, List, [], ◌∷◌, ◌++◌, reverse, length, take, drop, ℤ, Some, None, Option, slice_index_or, slice_set, refl}
+use Rattle.std.specs.Prelude.{◌≡◌, ℕ, suc, ◌+◌, true, List, [], ◌∷◌, ◌++◌, reverse, length, take, drop, ℤ, Some, None, Option, slice_index_or, slice_set, refl}
 use Rattle.std.proofs.Common.{sym, ap, ◌∙◌, inl, inr, arith}
 use Rattle.std.proofs.lemmas.List.{set-set, set-get_or, reverse-append, length-reverse}
 use Rattle.std.proofs.lemmas.Bool.{cases_Bool, cond-true, cond-false}
@@ -47,9 +47,8 @@ front : (s : List (List ℕ)) (us : List Replaced) (u : Replaced) → steps_back
 front s [] u = refl
 front s (v ∷ us) u = ap (λ (ss : List (List (List ℕ))). s ∷ ss) (front (put_back s v) us u)
 
-pub back_settled : (s : List (List ℕ)) (rs : List Replaced) → 0 < length rs → steps_back s (reverse (drop 1 rs)) ≡ take (length rs) (steps_back s (reverse rs))
-back_settled s [] h = absurd (omega arith)
-back_settled s (r ∷ rs) h =
+pub back_settled : (s : List (List ℕ)) (r : Replaced) (rs : List Replaced) → steps_back s (reverse rs) ≡ take (suc (length rs)) (steps_back s (reverse (r ∷ rs)))
+back_settled s r rs =
     front s (reverse rs) r
     ∙ ap (λ (k : ℕ). take (suc k) (steps_back s (reverse rs ++ r ∷ []))) (length-reverse rs)
     ∙ ap (λ (us : List Replaced). take (suc (length rs)) (steps_back s us)) (sym (reverse-append (r ∷ []) rs))

@@ -1,6 +1,5 @@
 // The machine that keeps the oldest sheet and the open edits.
-ghost use Rattle.std.specs.Prelude.{◌≤◌, length, vec_capacity};
-
+use crate::open_edits::OpenEdits;
 use sheet::{Edit, Sheet};
 
 pub mod moves;
@@ -9,7 +8,5 @@ pub mod moves;
 #[derive(Drop)]
 pub struct ReplayMachine {
     oldest: Sheet,
-    edits: Vec<Edit>,
-    ghost few: { length edits.items ≤ 16 },
-    ghost reserved: { 16 ≤ vec_capacity edits },
+    edits: OpenEdits<Edit>,
 }

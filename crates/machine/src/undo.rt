@@ -1,6 +1,5 @@
 // The machine that keeps the newest sheet and, for each open edit, the row that it replaced.
-ghost use Rattle.std.specs.Prelude.{◌≤◌, length, vec_capacity};
-
+use crate::open_edits::OpenEdits;
 use sheet::{Row, Sheet};
 
 pub mod moves;
@@ -16,7 +15,5 @@ pub struct Replaced {
 #[derive(Drop)]
 pub struct UndoMachine {
     newest: Sheet,
-    replaced: Vec<Replaced>,
-    ghost few: { length replaced.items ≤ 16 },
-    ghost reserved: { 16 ≤ vec_capacity replaced },
+    replaced: OpenEdits<Replaced>,
 }

@@ -9,12 +9,11 @@ ghost use Rattle.machine.specs.Counts;
 ghost use Rattle.machine.specs.StepsOn.{on_count};
 
 use super::ReplayMachine;
+use crate::open_edits::OpenEdits;
 use crate::state_machine::{Opens, StateMachine};
 use refusal::Refusal;
 use sheet::{Edit, Sheet};
 use std::alloc::{AllocError, Global};
-
-const OPEN_MAX: usize = 16;
 
 impl ReplayMachine {
     // The oldest sheet after all the open edits.
@@ -22,13 +21,14 @@ impl ReplayMachine {
         ensures { cells_of result ≡ newest opening (replay_states self.now) }
     {
         let mut sheet = self.oldest;
-        for edit in self.edits.as_slice() {
-            sheet = sheet.apply(*edit);
+        for edit in self.edits.items() {
+            sheet.change(*edit);
         }
         sheet
     }
 }
 
+#[tactic(auto, using(crate::specs::StepsOn::on_count, crate::specs::StepsOn::on_more), unfolding(crate::specs::Sheets::replay_states))]
 impl StateMachine for ReplayMachine {
     ghost State = { List (List ℕ) };
 
@@ -42,29 +42,20 @@ impl StateMachine for ReplayMachine {
 
     ghost idle = { unfold Rules.next in Prim.search rules };
 
-    ghost counted = { unfold replay_states in λ m. Counts.counted _ (length m.edits.items) (on_count (cells_of m.oldest) m.edits.items) m.few };
+    ghost counted = { unfold replay_states in λ m. Counts.counted _ (length m.edits.items.items) (on_count (cells_of m.oldest) m.edits.items.items) m.edits.few };
 
     fn apply(&mut self, edit: Edit) -> Result<(), Refusal> {
-        if self.edits.len() >= OPEN_MAX {
-            return Err(Refusal::OutOfBounds);
-        }
-        self.edits.push_reserved(edit);
-        Ok(())
+        self.edits.push(edit)
     }
 
     fn undo(&mut self) -> Result<(), Refusal> {
-        match self.edits.pop() {
-            Some(_) => Ok(()),
-            None => Err(Refusal::OutOfBounds),
-        }
+        let _ = self.edits.pop()?;
+        Ok(())
     }
 
     fn settle(&mut self) -> Result<(), Refusal> {
-        if self.edits.is_empty() {
-            return Err(Refusal::OutOfBounds);
-        }
-        let first = self.edits.remove(0);
-        self.oldest = self.oldest.apply(first);
+        let edit = self.edits.pop_oldest()?;
+        self.oldest.change(edit);
         Ok(())
     }
 
@@ -78,9 +69,10 @@ impl StateMachine for ReplayMachine {
     }
 }
 
+#[tactic(auto, unfolding(crate::specs::Sheets::replay_states))]
 impl Opens for ReplayMachine {
     fn open(heap: Global) -> Result<Self, AllocError> {
-        let edits = Vec::with_capacity(heap, OPEN_MAX)?;
+        let edits = OpenEdits::open(heap)?;
         Ok(ReplayMachine {
             oldest: Sheet::blank(),
             edits,

@@ -8,12 +8,11 @@ ghost use Rattle.machine.specs.Counts;
 ghost use Rattle.machine.specs.StepsBack.{back_count};
 
 use super::{Replaced, UndoMachine};
+use crate::open_edits::OpenEdits;
 use crate::state_machine::{Opens, StateMachine};
 use refusal::Refusal;
 use sheet::{Edit, Sheet};
 use std::alloc::{AllocError, Global};
-
-const OPEN_MAX: usize = 16;
 
 // What takes the edit back from the sheet after it.
 fn replaced_by(sheet: &Sheet, edit: Edit) -> Replaced
@@ -33,6 +32,7 @@ fn put_back(sheet: &mut Sheet, replaced: Replaced)
     }
 }
 
+#[tactic(auto, using(crate::specs::StepsBack::back_count, crate::specs::StepsBack::back_newest, crate::specs::StepsBack::back_more, crate::specs::StepsBack::back_settled, crate::specs::StepsBack::back_undone), unfolding(crate::specs::Sheets::undo_states))]
 impl StateMachine for UndoMachine {
     ghost State = { List (List ℕ) };
 
@@ -46,31 +46,22 @@ impl StateMachine for UndoMachine {
 
     ghost idle = { unfold Rules.next in Prim.search rules };
 
-    ghost counted = { unfold undo_states in λ m. Counts.counted _ (length m.replaced.items) (back_count (cells_of m.newest) m.replaced.items) m.few };
+    ghost counted = { unfold undo_states in λ m. Counts.counted _ (length m.replaced.items.items) (back_count (cells_of m.newest) m.replaced.items.items) m.replaced.few };
 
     fn apply(&mut self, edit: Edit) -> Result<(), Refusal> {
-        if self.replaced.len() >= OPEN_MAX {
-            return Err(Refusal::OutOfBounds);
-        }
-        let replaced = replaced_by(&self.newest, edit);
-        self.replaced.push_reserved(replaced);
+        self.replaced.push(replaced_by(&self.newest, edit))?;
         self.newest.change(edit);
         Ok(())
     }
 
     fn undo(&mut self) -> Result<(), Refusal> {
-        let Some(last) = self.replaced.pop() else {
-            return Err(Refusal::OutOfBounds);
-        };
+        let last = self.replaced.pop()?;
         put_back(&mut self.newest, last);
         Ok(())
     }
 
     fn settle(&mut self) -> Result<(), Refusal> {
-        if self.replaced.is_empty() {
-            return Err(Refusal::OutOfBounds);
-        }
-        let _ = self.replaced.remove(0);
+        let _ = self.replaced.pop_oldest()?;
         Ok(())
     }
 
@@ -84,9 +75,10 @@ impl StateMachine for UndoMachine {
     }
 }
 
+#[tactic(auto, unfolding(crate::specs::Sheets::undo_states))]
 impl Opens for UndoMachine {
     fn open(heap: Global) -> Result<Self, AllocError> {
-        let replaced = Vec::with_capacity(heap, OPEN_MAX)?;
+        let replaced = OpenEdits::open(heap)?;
         Ok(UndoMachine {
             newest: Sheet::blank(),
             replaced,

@@ -6,4 +6,4 @@ use Rattle.machine.specs.Sheets.{steps_on}
 use Rattle.machine.proofs.replay.ReplayMachine.replayed.Given as goal
 
 abbrev pub invariant-loop-edit : goal.invariant-loop-edit
-invariant-loop-edit l = cells_of l.sheet ≡ newest opening (steps_on (cells_of l.self.oldest ∷ []) (take l.edit-index (vec_items l.self.edits)))
+invariant-loop-edit l = cells_of l.sheet ≡ newest opening (steps_on (cells_of l.self.oldest ∷ []) (take l.edit-index (vec_items l.self.edits.items)))

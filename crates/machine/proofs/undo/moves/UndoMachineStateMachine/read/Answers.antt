@@ -17,4 +17,4 @@ returns c =
     let e : c.cell.result ≡ cell_at (cells_of c.args.self.now.newest) c.args.row c.args.size = simp to_z-of_z at c.cell.ensures in
     ap told c.ok_or.ensures.value ∙ read_told c.cell.result
     ∙ ap read_answer (e ∙ ap (λ (s : List (List ℕ)). cell_at s c.args.row c.args.size)
-    (sym (back_newest opening (cells_of c.args.self.now.newest) (reverse (vec_items c.args.self.now.replaced)))))
+    (sym (back_newest opening (cells_of c.args.self.now.newest) (reverse (vec_items c.args.self.now.replaced.items)))))
