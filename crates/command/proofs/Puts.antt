@@ -1,12 +1,13 @@
 -- Bytes that are put one after another.
-use Rattle.std.proofs.Common.{◌≡◌, ℕ, ◌+◌, ◌/◌, ◌^◌, ◌<◌, ◌≤◌, List, [], ◌∷◌, ◌++◌, length, vec_items, vec_len, vec_capacity, decimal, codes, cond, true, false, Vec, ap, ◌∙◌, append_assoc, arith, lit<, lit≤, length-append}
+use Rattle.std.proofs.Common.{◌≡◌, ℕ, ◌+◌, ◌/◌, ◌^◌, ◌<◌, ◌≤◌, List, [], ◌∷◌, ◌++◌, length, vec_items, vec_len, vec_capacity, decimal, codes, cond, true, false, Vec, get_or, refl, ap, ◌∙◌, append_assoc, arith, lit<, lit≤, length-append}
 use Rattle.std.proofs.lemmas.Fmt.{decimal_step, length-decimal-le}
 use Rattle.protocol.specs.declared.Role.{Role}
 use Rattle.protocol.specs.declared.Role.TheVariants.{Follower, Candidate, Leader}
 use Rattle.protocol.specs.declared.Standing.{Standing}
 use Rattle.protocol.specs.declared.Standing.TheVariants.{Kept, Gone, Open, Unknown}
-use Rattle.command.specs.declared.types.ServerLine.{ServerLine}
-use Rattle.command.specs.Shown.{role_shown, standing_shown, state_shown}
+use Rattle.protocol.specs.declared.Status.{Status}
+use Rattle.protocol.specs.Shown.{role_shown, standing_shown, state_shown, server_shown}
+use Rattle.command.specs.Shown.{servers_before}
 use Rattle.command.specs.Writing.{Put}
 
 module _ {Z : Type 0} where
@@ -61,5 +62,14 @@ role_few Follower = lit≤ tt
 role_few Candidate = lit≤ tt
 role_few Leader = lit≤ tt
 
-pub state_few : (s : ServerLine) → length (state_shown s) ≤ 1
+pub state_few : (s : Status) → length (state_shown s) ≤ 1
 state_few s = elim s.up as (λ u. length (cond u (role_shown s.role) (codes "d")) ≤ 1) [ true ↦ role_few s.role | false ↦ lit≤ tt ]
+
+-- three servers, one by one
+pub three_before : (rest : List ℕ) (ss : List Status) → length ss ≡ 3 → (d : Status)
+    → servers_before rest ss ≡ 32 ∷ (server_shown (get_or ss 0 d) ++ (32 ∷ (server_shown (get_or ss 1 d) ++ (32 ∷ (server_shown (get_or ss 2 d) ++ rest)))))
+three_before rest (a ∷ b ∷ c ∷ []) e d = refl
+three_before rest [] e d = absurd (omega arith)
+three_before rest (a ∷ []) e d = absurd (omega arith)
+three_before rest (a ∷ b ∷ []) e d = absurd (omega arith)
+three_before rest (a ∷ b ∷ c ∷ x ∷ ss) e d = absurd (omega arith)

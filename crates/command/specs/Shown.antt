@@ -1,39 +1,27 @@
 -- The line that is printed.
-use Rattle.std.specs.Prelude.{ℕ, cond, List, [], ◌∷◌, ◌++◌, codes, decimal}
-use Rattle.protocol.specs.declared.Role.{Role}
-use Rattle.protocol.specs.declared.Role.TheVariants.{Follower, Candidate, Leader}
-use Rattle.protocol.specs.declared.Standing.{Standing}
-use Rattle.protocol.specs.declared.Standing.TheVariants.{Kept, Gone, Open, Unknown}
-use Rattle.command.specs.declared.types.ServerLine.{ServerLine}
-use Rattle.command.specs.declared.types.Ending.{Ending}
-use Rattle.command.specs.declared.types.Ending.TheVariants.{Nothing, Count, Word, Cell}
+use Rattle.std.specs.Prelude.{ℕ, List, [], ◌∷◌, ◌++◌, decimal, Some, None, Option}
+use Rattle.protocol.specs.declared.Status.{Status}
+use Rattle.protocol.specs.Shown.{standing_shown, server_shown}
+use Rattle.command.specs.declared.types.Found.{Found}
+use Rattle.command.specs.declared.types.Found.TheVariants.{Count, Word, Cell}
+use Rattle.command.specs.declared.reply.Reply.{Reply}
 
-abbrev pub role_shown : Role → List ℕ
-role_shown Follower = codes "f"
-role_shown Candidate = codes "c"
-role_shown Leader = codes "l"
+-- What the call found.
+abbrev pub found_shown : Found → List ℕ
+found_shown (Count n) = decimal n
+found_shown (Word s) = standing_shown s
+found_shown (Cell tenths) = decimal tenths
 
-abbrev pub standing_shown : Standing → List ℕ
-standing_shown Kept = codes "kept"
-standing_shown Gone = codes "gone"
-standing_shown Open = codes "open"
-standing_shown Unknown = codes "unknown"
+-- One space, and what the call found, if it found something; 32 is the space.
+abbrev pub ending_shown : Option Found → List ℕ
+ending_shown None = []
+ending_shown (Some found) = 32 ∷ found_shown found
 
--- A server's role, or d where it is down.
-abbrev pub state_shown : ServerLine → List ℕ
-state_shown s = cond s.up (role_shown s.role) (codes "d")
-
--- term/role/length/durable/commit/applied; 47 is the slash.
-abbrev pub server_shown : ServerLine → List ℕ
-server_shown s = decimal s.term ++ (47 ∷ (state_shown s ++ (47 ∷ (decimal s.length ++ (47 ∷ (decimal s.durable ++ (47 ∷ (decimal s.commit ++ (47 ∷ decimal s.applied)))))))))
-
--- One space, and what the call found; 32 is the space.
-abbrev pub ending_shown : Ending → List ℕ
-ending_shown Nothing = []
-ending_shown (Count n) = 32 ∷ decimal n
-ending_shown (Word s) = 32 ∷ standing_shown s
-ending_shown (Cell tenths) = 32 ∷ decimal tenths
+-- One space and a server, for each of them, before the rest.
+abbrev pub servers_before : List ℕ → List Status → List ℕ
+servers_before rest [] = rest
+servers_before rest (s ∷ ss) = 32 ∷ (server_shown s ++ servers_before rest ss)
 
 -- The answer, the three servers, and the ending.
-abbrev pub shown : ℕ → ServerLine → ServerLine → ServerLine → Ending → List ℕ
-shown answer one two three ending = decimal answer ++ (32 ∷ (server_shown one ++ (32 ∷ (server_shown two ++ (32 ∷ (server_shown three ++ ending_shown ending))))))
+abbrev pub shown : Reply → List ℕ
+shown r = decimal r.number ++ servers_before (ending_shown r.found) r.servers

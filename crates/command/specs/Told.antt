@@ -1,29 +1,39 @@
 -- What a line tells of an answer.
-use Rattle.std.specs.Prelude.{ℕ}
+use Rattle.std.specs.Prelude.{ℕ, List, Some, None, Option, Ok, Err, Result}
 use Rattle.refusal.specs.Numbers.{number_of}
-use Rattle.command.specs.declared.types.Answer.{Answer}
-use Rattle.command.specs.declared.types.Answer.TheVariants.{NoCommand, Refused, Done, Lost, Ticket, Kept, Told, Cell as CellAnswer}
-use Rattle.command.specs.declared.types.Ending.{Ending}
-use Rattle.command.specs.declared.types.Ending.TheVariants.{Nothing, Count, Word, Cell}
+use Rattle.protocol.specs.declared.Status.{Status}
+use Rattle.command.specs.declared.types.Told.{Told}
+use Rattle.command.specs.declared.types.Told.TheVariants.{Done, Lost, Ticket, Kept, Standing, Cell as CellTold}
+use Rattle.command.specs.declared.types.Problem.{Problem}
+use Rattle.command.specs.declared.types.Problem.TheVariants.{NoCommand, Refused}
+use Rattle.command.specs.declared.types.Found.{Found}
+use Rattle.command.specs.declared.types.Found.TheVariants.{Count, Word, Cell}
+use Rattle.command.specs.declared.reply.Reply.{Reply}
 
--- 0, or the number of the refusal; 14 where the line is no command.
-abbrev pub number_shown : Answer → ℕ
-number_shown NoCommand = 14
-number_shown (Refused refusal) = number_of refusal
-number_shown Done = 0
-number_shown (Lost count) = 0
-number_shown (Ticket number term) = 0
-number_shown (Kept count) = 0
-number_shown (Told standing) = 0
-number_shown (CellAnswer tenths) = 0
+-- The number of the refusal; 14 where the line is no command.
+abbrev pub problem_number : Problem → ℕ
+problem_number NoCommand = 14
+problem_number (Refused refusal) = number_of refusal
 
--- What an outage, a standing or a look found; every other answer's line ends with nothing.
-abbrev pub ending_of : Answer → Ending
-ending_of NoCommand = Nothing
-ending_of (Refused refusal) = Nothing
-ending_of Done = Nothing
-ending_of (Lost count) = Nothing
-ending_of (Ticket number term) = Nothing
-ending_of (Kept count) = Count count
-ending_of (Told standing) = Word standing
-ending_of (CellAnswer tenths) = Cell tenths
+-- 0, or the number of the problem.
+abbrev pub number_shown : Result Told Problem → ℕ
+number_shown (Ok told) = 0
+number_shown (Err problem) = problem_number problem
+
+-- What an outage, a standing or a look found; every other call finds nothing.
+abbrev pub found_in : Told → Option Found
+found_in Done = None
+found_in (Lost count) = None
+found_in (Ticket number term) = None
+found_in (Kept count) = Some (Count count)
+found_in (Standing standing) = Some (Word standing)
+found_in (CellTold tenths) = Some (Cell tenths)
+
+-- What the line of an answer ends with.
+abbrev pub ending_of : Result Told Problem → Option Found
+ending_of (Ok told) = found_in told
+ending_of (Err problem) = None
+
+-- What is told of an answer, and of the servers after it.
+abbrev pub reply_to : Result Told Problem → List Status → Reply
+reply_to answer servers = record { number = number_shown answer; servers = servers; found = ending_of answer }

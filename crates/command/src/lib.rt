@@ -1,13 +1,12 @@
 // The lines that the program table-run reads, as commands, and the lines that it prints.
 #![tactic(auto)]
 
-pub mod answers;
 pub mod line;
 pub mod read;
-pub mod show;
+pub mod reply;
 pub mod types;
 
 pub use line::Line;
 pub use read::command_in;
-pub use show::{answer_line, word};
-pub use types::{Answer, Command, Ending, ServerLine};
+pub use reply::{Reply, answer_line};
+pub use types::{Command, Found, Problem, Told};

@@ -1,10 +1,12 @@
 // The line that answers a command, written into memory that is reserved beforehand.
 ghost use Rattle.std.specs.Prelude.{◌≡◌, ◌≤◌, [], ◌∷◌, length, IfOk, vec_capacity, decimal};
-ghost use Rattle.command.specs.Shown.{server_shown, ending_shown, shown};
+ghost use Rattle.protocol.specs.Shown.{server_shown};
+ghost use Rattle.command.specs.Shown.{ending_shown, shown};
 ghost use Rattle.command.specs.Writing.{Room, Put};
 
-use crate::show::{state, word};
-use crate::types::{Ending, ServerLine};
+use crate::reply::Reply;
+use crate::types::Found;
+use protocol::Status;
 use std::alloc::{AllocError, Global};
 
 // No line is longer.
@@ -33,27 +35,21 @@ impl Line {
         self.bytes.as_slice()
     }
 
-    // Writes the line that answers a command, in place of what the buffer held.
-    pub fn write(
-        &mut self,
-        answer: u8,
-        one: ServerLine,
-        two: ServerLine,
-        three: ServerLine,
-        ending: Ending,
-    )
-        ensures { self.new.bytes.items ≡ shown answer one two three ending }
+    // Writes the line that tells a reply, in place of what the buffer held.
+    pub fn write(&mut self, reply: &Reply)
+        ensures { self.new.bytes.items ≡ shown reply.now }
     {
         let out = &mut self.bytes;
+        let [one, two, three] = &reply.servers;
         out.truncate(0);
-        put_number(out, u32::from(answer));
+        put_number(out, u32::from(reply.number));
         out.push_reserved(b' ');
-        put_server(out, &one);
+        put_server(out, one);
         out.push_reserved(b' ');
-        put_server(out, &two);
+        put_server(out, two);
         out.push_reserved(b' ');
-        put_server(out, &three);
-        put_ending(out, ending);
+        put_server(out, three);
+        put_ending(out, reply.found);
     }
 }
 
@@ -91,31 +87,33 @@ fn put_text(out: &mut Vec<u8>, text: &str)
 }
 
 // Puts a server at a glance.
-fn put_server(out: &mut Vec<u8>, server: &ServerLine)
+fn put_server(out: &mut Vec<u8>, server: &Status)
     requires { Room 56 out.old }
     ensures { Put 56 out.old (server_shown server.now) out.new }
 {
     put_number(out, server.term);
     out.push_reserved(b'/');
-    put_text(out, state(server));
+    put_text(out, server.state());
     put_after(out, b'/', server.length);
     put_after(out, b'/', server.durable);
     put_after(out, b'/', server.commit);
     put_after(out, b'/', server.applied);
 }
 
-// Puts a space and what the call found, if it tells something.
-fn put_ending(out: &mut Vec<u8>, ending: Ending)
+// Puts a space and what the call found, if it found something.
+fn put_ending(out: &mut Vec<u8>, found: Option<Found>)
     requires { Room 11 out.old }
-    ensures { Put 11 out.old (ending_shown ending) out.new }
+    ensures { Put 11 out.old (ending_shown found) out.new }
 {
-    match ending {
-        Ending::Nothing => {}
-        Ending::Count(count) => put_after(out, b' ', count),
-        Ending::Word(standing) => {
+    let Some(found) = found else {
+        return;
+    };
+    match found {
+        Found::Count(count) => put_after(out, b' ', count),
+        Found::Word(standing) => {
             out.push_reserved(b' ');
-            put_text(out, word(standing));
+            put_text(out, standing.word());
         }
-        Ending::Cell(tenths) => put_after(out, b' ', u32::from(tenths)),
+        Found::Cell(tenths) => put_after(out, b' ', u32::from(tenths)),
     }
 }

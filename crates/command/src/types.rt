@@ -1,5 +1,9 @@
-// A command, and what a printed line tells.
-use protocol::{Role, Standing};
+// A command, and what it is answered with.
+ghost use Rattle.std.specs.Prelude.{◌≡◌};
+ghost use Rattle.command.specs.declared.types.Problem.TheVariants.{Refused};
+ghost use Rattle.command.specs.Told.{problem_number, found_in};
+
+use protocol::Standing;
 use refusal::Refusal;
 use sheet::Edit;
 
@@ -19,12 +23,9 @@ pub enum Command {
     Look { server: u32, row: u32, size: u32 },
 }
 
-// What a line is answered with.
-#[derive(Clone, Copy)]
-pub enum Answer {
-    // The line is no command.
-    NoCommand,
-    Refused(Refusal),
+// What a command is answered with.
+#[derive(Clone, Copy, Debug, PartialEq, Eq)]
+pub enum Told {
     Done,
     // How many messages were lost.
     Lost(u32),
@@ -33,31 +34,60 @@ pub enum Answer {
     // How many entries an outage kept.
     Kept(u32),
     // What the server can tell of a ticket.
-    Told(Standing),
+    Standing(Standing),
     // Tenths of a millimetre.
     Cell(u16),
 }
 
-// What a line tells of a server.
-#[derive(Clone, Copy)]
-pub struct ServerLine {
-    pub term: u32,
-    pub up: bool,
-    pub role: Role,
-    pub length: u32,
-    pub durable: u32,
-    pub commit: u32,
-    pub applied: u32,
+// Why a line is answered with nothing.
+#[derive(Clone, Copy, Debug, PartialEq, Eq)]
+pub enum Problem {
+    // The line is no command.
+    NoCommand,
+    Refused(Refusal),
 }
 
-// What a line ends with.
-#[derive(Clone, Copy)]
-pub enum Ending {
-    Nothing,
+// What the line of an answer ends with.
+#[derive(Clone, Copy, Debug, PartialEq, Eq)]
+pub enum Found {
     // How many entries were kept.
     Count(u32),
     // What the server can tell of a ticket.
     Word(Standing),
     // Tenths of a millimetre.
     Cell(u16),
+}
+
+impl From<Refusal> for Problem {
+    ghost from_gives = { λ refusal problem. problem ≡ Refused refusal };
+
+    fn from(refusal: Refusal) -> Problem {
+        Self::Refused(refusal)
+    }
+}
+
+impl Problem {
+    // The number that stands for the problem.
+    pub fn number(self) -> u8
+        ensures { result ≡ problem_number self }
+    {
+        match self {
+            Problem::NoCommand => 14,
+            Problem::Refused(refusal) => refusal.number(),
+        }
+    }
+}
+
+impl Told {
+    // What an outage, a standing or a look found.
+    pub fn found(self) -> Option<Found>
+        ensures { result ≡ found_in self }
+    {
+        match self {
+            Told::Done | Told::Lost(_) | Told::Ticket { .. } => None,
+            Told::Kept(count) => Some(Found::Count(count)),
+            Told::Standing(standing) => Some(Found::Word(standing)),
+            Told::Cell(tenths) => Some(Found::Cell(tenths)),
+        }
+    }
 }

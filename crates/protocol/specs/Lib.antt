@@ -7,3 +7,4 @@ pub mod Calls
 pub mod Runs
 pub mod Promises
 pub mod Starred
+pub mod Shown

@@ -8,6 +8,7 @@ ghost use Rattle.protocol.specs.ServerIds.{number_of, numbered};
 use record::Entry;
 use refusal::Refusal;
 
+pub mod shown;
 pub mod starred;
 
 // One of the three servers, by its number.

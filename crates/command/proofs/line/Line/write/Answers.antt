@@ -1,6 +1,6 @@
-use Rattle.std.proofs.Common.{◌++◌, decimal, ap, ◌∙◌}
-use Rattle.command.specs.Shown.{shown}
-use Rattle.command.proofs.Puts.{put_one, put_then, put_is}
+use Rattle.std.proofs.Common.{◌≡◌, ◌++◌, length, decimal, sym, ap, ◌∙◌, arith}
+use Rattle.command.specs.Shown.{ending_shown, shown}
+use Rattle.command.proofs.Puts.{put_one, put_then, put_is, three_before}
 use Rattle.command.proofs.line.Line.write.Goals as goal
 
 pub returns : goal.returns
@@ -8,6 +8,8 @@ returns c =
     let first = c.push_reserved.ensures in
     let second = c.push_reserved-2.ensures in
     let third = c.push_reserved-3.ensures in
+    let reply = c.args.reply.now in
+    let three : length reply.servers ≡ 3 = omega arith in
     let number = put_is c.put_number.ensures (ap decimal c.from.ensures) in
     let all =
     put_then number
@@ -18,4 +20,5 @@ returns c =
     (put_then (put_one c.put_server-2.new.out c.push_reserved-3.new.self third.items third.len third.capacity)
     (put_then c.put_server-3.ensures c.put_ending.ensures))))))
     in
-    all.items ∙ ap (λ z. z ++ shown c.args.answer c.args.one c.args.two c.args.three c.args.ending) c.truncate.ensures.items
+    (put_is all (ap (λ z. decimal reply.number ++ z) (sym (three_before (ending_shown reply.found) reply.servers three _)))).items
+    ∙ ap (λ z. z ++ shown reply) c.truncate.ensures.items
