@@ -29,7 +29,7 @@ kind_of m = record { opening = m.opening; next = m.next; cell = m.cell }
 
 -- the protocol's server, and the states of the machine beside it
 abbrev pub state_of : {S M : Type 0} → StoreGhosts S → Server S M → State
-state_of s server = server_of s.meaning server.node
+state_of s server = server_of s server.node
 
 abbrev pub states_of : {S M : Type 0} → (m : MachineGhosts M) → Server S M → List m.State
 states_of m server = m.states server.machine

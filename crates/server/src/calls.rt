@@ -15,8 +15,7 @@ use crate::following::{Before, follow};
 use crate::{Proposed, Server, steps};
 use machine::StateMachine;
 use node::Node;
-use node::ids::{is_same, leads};
-use protocol::{Message, ServerId, Standing};
+use protocol::{Message, Role, ServerId, Standing};
 use refusal::Refusal;
 use replication::leading::append_request;
 use sheet::Edit;
@@ -84,10 +83,10 @@ impl<S: Store + Drop, M: StateMachine + Drop> Server<S, M> {
         if !self.node.up {
             return Err(Refusal::ServerDown);
         }
-        if !leads(self.node.role) {
+        if self.node.role != Role::Leader {
             return Err(Refusal::NotLeader);
         }
-        if is_same(me, receiver) {
+        if me == receiver {
             return Err(Refusal::SameServer);
         }
         Ok(append_request(&self.node, me, receiver))

@@ -21,7 +21,7 @@ pub struct Before {
 
 impl Before {
     pub fn of<S: Store + Drop>(node: &Node<S>) -> Self
-        ensures { result ≡ before_of (server_of S.Store.meaning node.now) }
+        ensures { result ≡ before_of (server_of S.Store node.now) }
     {
         Before {
             up: node.up,
@@ -32,6 +32,7 @@ impl Before {
 }
 
 // Settles as often as that, as far as there are states to settle.
+// Kept: undo_times in machine drops the newest state where this drops the oldest; one loop for both would take the move as a closure, no plainer than the loop.
 fn settle_times<M: StateMachine>(machine: &mut M, times: u32)
     ensures { M.states machine.new ≡ settled_times times (M.states machine.old) }
 {
@@ -49,7 +50,7 @@ fn edit_at<S: Store + Drop>(node: &Node<S>, i: u32) -> Edit
 
 // Applies or undoes, from `was` applied entries to those of the node.
 fn advance<S: Store + Drop, M: StateMachine + Drop>(machine: &mut M, was: u32, node: &Node<S>)
-    ensures { M.StateMachine.states machine.new ≡ advanced (kind_of M.StateMachine) was (server_of S.Store.meaning node.now) (M.StateMachine.states machine.old) }
+    ensures { M.StateMachine.states machine.new ≡ advanced (kind_of M.StateMachine) was (server_of S.Store node.now) (M.StateMachine.states machine.old) }
 {
     if was < node.applied {
         let _ = machine.apply(edit_at(node, was));
@@ -64,7 +65,7 @@ pub fn follow<S: Store + Drop, M: StateMachine + Drop>(
     before: Before,
     node: &Node<S>,
 )
-    ensures { M.StateMachine.states machine.new ≡ moved_from (kind_of M.StateMachine) before (server_of S.Store.meaning node.now) (M.StateMachine.states machine.old) }
+    ensures { M.StateMachine.states machine.new ≡ moved_from (kind_of M.StateMachine) before (server_of S.Store node.now) (M.StateMachine.states machine.old) }
 {
     if before.up && !node.up {
         machine.reset();

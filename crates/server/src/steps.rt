@@ -9,7 +9,6 @@ ghost use Rattle.server.specs.Answers.{told_proposed, kept_by, may_keep_at};
 
 use crate::Proposed;
 use node::Node;
-use node::ids::leads;
 use protocol::{Body, Message, Role, ServerId, Standing};
 use record::Entry;
 use refusal::Refusal;
@@ -20,8 +19,8 @@ use store::Store;
 
 // A message at its receiver: it takes the term if it is higher, and hears the message.
 pub fn hear<S: Store + Drop>(node: &mut Node<S>, message: Message) -> Option<Message>
-    ensures after { Goes S.Store.meaning node.old (λ s. hears (caught_up message.term s) message.from message.to message.term message.body) node.new }
-    ensures says { result ≡ replies (caught_up message.term (server_of S.Store.meaning node.old)) message.from message.to message.term message.body }
+    ensures after { Goes S.Store node.old (λ s. hears (caught_up message.term s) message.from message.to message.term message.body) node.new }
+    ensures says { result ≡ replies (caught_up message.term (server_of S.Store node.old)) message.from message.to message.term message.body }
 {
     node.catch_up(message.term);
     match message.body {
@@ -45,14 +44,14 @@ pub fn hear<S: Store + Drop>(node: &mut Node<S>, message: Message) -> Option<Mes
 
 // A leader takes an entry of its term, volatile.
 pub fn propose<S: Store + Drop>(node: &mut Node<S>, edit: Edit) -> Result<Proposed, Refusal>
-    ensures says { told_proposed result ≡ propose_answer (server_of S.Store.meaning node.old) }
-    ensures after { Goes S.Store.meaning node.old (proposes edit) node.new }
+    ensures says { told_proposed result ≡ propose_answer (server_of S.Store node.old) }
+    ensures after { Goes S.Store node.old (proposes edit) node.new }
 {
     // That the server is down is told before that it is no leader.
     if !node.up {
         return Err(Refusal::ServerDown);
     }
-    if !leads(node.role) {
+    if node.role != Role::Leader {
         return Err(Refusal::NotLeader);
     }
     let length = node.len();
@@ -69,14 +68,14 @@ pub fn propose<S: Store + Drop>(node: &mut Node<S>, edit: Edit) -> Result<Propos
 
 // Syncs the store; a leader then raises its commit.
 pub fn firm<S: Store + Drop>(node: &mut Node<S>, me: ServerId) -> Result<(), Refusal>
-    ensures says { told result ≡ firm_answer (server_of S.Store.meaning node.old) }
-    ensures after { Goes S.Store.meaning node.old (firms me) node.new }
+    ensures says { told result ≡ firm_answer (server_of S.Store node.old) }
+    ensures after { Goes S.Store node.old (firms me) node.new }
 {
     if !node.up {
         return Err(Refusal::ServerDown);
     }
     sync_log(node);
-    if leads(node.role) {
+    if node.role == Role::Leader {
         raise(node, me);
     }
     Ok(())
@@ -84,21 +83,21 @@ pub fn firm<S: Store + Drop>(node: &mut Node<S>, me: ServerId) -> Result<(), Ref
 
 // Whether the next entry may be applied openly, room apart.
 fn openly<S: Store + Drop>(node: &Node<S>) -> bool
-    ensures is { result ≡ openly (server_of S.Store.meaning node.now) }
+    ensures is { result ≡ openly (server_of S.Store node.now) }
     ensures few { T result → node.now.applied < 64 }
 {
     0 < node.commit && (node.tip(node.commit) == node.store.term() && node.applied < node.len())
 }
 
 fn few_open<S: Store + Drop>(node: &Node<S>) -> bool
-    ensures { result ≡ few_open (server_of S.Store.meaning node.now) }
+    ensures { result ≡ few_open (server_of S.Store node.now) }
 {
     node.applied.saturating_sub(node.commit) < 16
 }
 
 // Whether the next entry may be applied, below commit or openly, or why not.
 fn may_apply<S: Store + Drop>(node: &Node<S>) -> Result<(), Refusal>
-    ensures says { told result ≡ apply_answer (server_of S.Store.meaning node.now) }
+    ensures says { told result ≡ apply_answer (server_of S.Store node.now) }
     ensures few { IfOk result (λ _. node.now.applied < 4294967295) }
 {
     if !node.up {
@@ -118,8 +117,8 @@ fn may_apply<S: Store + Drop>(node: &Node<S>) -> Result<(), Refusal>
 
 // Applies the next entry.
 pub fn apply<S: Store + Drop>(node: &mut Node<S>) -> Result<(), Refusal>
-    ensures says { told result ≡ apply_answer (server_of S.Store.meaning node.old) }
-    ensures after { Goes S.Store.meaning node.old applies_next node.new }
+    ensures says { told result ≡ apply_answer (server_of S.Store node.old) }
+    ensures after { Goes S.Store node.old applies_next node.new }
 {
     may_apply(node)?;
     node.applied += 1;
@@ -128,9 +127,9 @@ pub fn apply<S: Store + Drop>(node: &mut Node<S>) -> Result<(), Refusal>
 
 // Stops the server, and tells how many entries are left. `wish` is how many volatile ones may stay.
 pub fn stop<S: Store + Drop>(node: &mut Node<S>, wish: u32) -> Result<u32, Refusal>
-    ensures says { told result ≡ outage_answer (server_of S.Store.meaning node.old) (kept_by result) }
-    ensures after { Goes S.Store.meaning node.old (fails (kept_by result)) node.new }
-    ensures may { may_keep_at (kept_by result) (server_of S.Store.meaning node.old) ≡ true }
+    ensures says { told result ≡ outage_answer (server_of S.Store node.old) (kept_by result) }
+    ensures after { Goes S.Store node.old (fails (kept_by result)) node.new }
+    ensures may { may_keep_at (kept_by result) (server_of S.Store node.old) ≡ true }
 {
     if !node.up {
         return Err(Refusal::ServerDown);
@@ -144,8 +143,8 @@ pub fn stop<S: Store + Drop>(node: &mut Node<S>, wish: u32) -> Result<u32, Refus
 }
 
 pub fn restart<S: Store + Drop>(node: &mut Node<S>) -> Result<(), Refusal>
-    ensures says { told result ≡ restart_answer (server_of S.Store.meaning node.old) }
-    ensures after { Goes S.Store.meaning node.old restarts node.new }
+    ensures says { told result ≡ restart_answer (server_of S.Store node.old) }
+    ensures after { Goes S.Store node.old restarts node.new }
 {
     if node.up {
         return Err(Refusal::AlreadyUp);
@@ -156,7 +155,7 @@ pub fn restart<S: Store + Drop>(node: &mut Node<S>) -> Result<(), Refusal>
 
 // What the node tells of a number and a term.
 pub fn standing_of<S: Store + Drop>(node: &Node<S>, number: u32, term: u32) -> Standing
-    ensures { result ≡ standing_of (server_of S.Store.meaning node.now) number term }
+    ensures { result ≡ standing_of (server_of S.Store node.now) number term }
 {
     let own = node.tip(number) == term;
     if number == 0 {
