@@ -12,6 +12,7 @@ ghost use Rattle.server.specs.Turns.{kind_of, state_of, states_of, Turned};
 ghost use Rattle.server.specs.Answers.{told_proposed, request_answer, kept_by, may_keep_at};
 
 use crate::following::{Before, follow};
+use crate::steps::running;
 use crate::{Proposed, Server, steps};
 use machine::StateMachine;
 use node::Node;
@@ -80,9 +81,7 @@ impl<S: Store + Drop, M: StateMachine + Drop> Server<S, M> {
     pub fn request(&self, me: ServerId, receiver: ServerId) -> Result<Message, Refusal>
         ensures { told result ≡ request_answer me receiver (state_of S.Store self.now) }
     {
-        if !self.node.up {
-            return Err(Refusal::ServerDown);
-        }
+        running(&self.node)?;
         if self.node.role != Role::Leader {
             return Err(Refusal::NotLeader);
         }
@@ -118,9 +117,7 @@ impl<S: Store + Drop, M: StateMachine + Drop> Server<S, M> {
     pub fn standing(&self, number: u32, term: u32) -> Result<Standing, Refusal>
         ensures { told result ≡ standing_answer (state_of S.Store self.now) number term }
     {
-        if !self.node.up {
-            return Err(Refusal::ServerDown);
-        }
+        running(&self.node)?;
         Ok(steps::standing_of(&self.node, number, term))
     }
 
@@ -128,9 +125,7 @@ impl<S: Store + Drop, M: StateMachine + Drop> Server<S, M> {
     pub fn look(&self, row: i32, size: i32) -> Result<u16, Refusal>
         ensures { told result ≡ look_answer (kind_of M.StateMachine) (state_of S.Store self.now) (states_of M.StateMachine self.now) row size }
     {
-        if !self.node.up {
-            return Err(Refusal::ServerDown);
-        }
+        running(&self.node)?;
         self.machine
             .read(row, size)
             .map_err(|_| Refusal::NoSuchCell)

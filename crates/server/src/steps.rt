@@ -1,5 +1,6 @@
 // What a message or a call does to a node, its machine apart.
-ghost use Rattle.std.specs.Prelude.{◌≡◌, ◌<◌, true, T, [], ◌∷◌, ◌++◌, length, IfOk};
+ghost use Rattle.std.specs.Prelude.{MatchResult, false, ◌≡◌, ◌<◌, true, T, [], ◌∷◌, ◌++◌, length, IfOk};
+ghost use Rattle.refusal.specs.declared.Refusal.TheVariants.{ServerDown};
 ghost use Rattle.refusal.specs.Numbers.{told};
 ghost use Rattle.protocol.specs.Elections.{caught_up};
 ghost use Rattle.protocol.specs.Rules.{hears, replies, proposes, firms, openly, few_open, applies, applies_next, fails, restarts, standing_of};
@@ -42,15 +43,23 @@ pub fn hear<S: Store + Drop>(node: &mut Node<S>, message: Message) -> Option<Mes
     }
 }
 
+// Refuses at a server that is down.
+pub(crate) fn running<S: Store + Drop>(node: &Node<S>) -> Result<(), Refusal>
+    ensures { MatchResult result (λ _. node.now.up ≡ true) (λ refusal. (refusal ≡ ServerDown) × (node.now.up ≡ false)) }
+{
+    if !node.up {
+        return Err(Refusal::ServerDown);
+    }
+    Ok(())
+}
+
 // A leader takes an entry of its term, volatile.
 pub fn propose<S: Store + Drop>(node: &mut Node<S>, edit: Edit) -> Result<Proposed, Refusal>
     ensures says { told_proposed result ≡ propose_answer (server_of S.Store node.old) }
     ensures after { Goes S.Store node.old (proposes edit) node.new }
 {
     // That the server is down is told before that it is no leader.
-    if !node.up {
-        return Err(Refusal::ServerDown);
-    }
+    running(node)?;
     if node.role != Role::Leader {
         return Err(Refusal::NotLeader);
     }
@@ -71,9 +80,7 @@ pub fn firm<S: Store + Drop>(node: &mut Node<S>, me: ServerId) -> Result<(), Ref
     ensures says { told result ≡ firm_answer (server_of S.Store node.old) }
     ensures after { Goes S.Store node.old (firms me) node.new }
 {
-    if !node.up {
-        return Err(Refusal::ServerDown);
-    }
+    running(node)?;
     sync_log(node);
     if node.role == Role::Leader {
         raise(node, me);
@@ -100,9 +107,7 @@ fn may_apply<S: Store + Drop>(node: &Node<S>) -> Result<(), Refusal>
     ensures says { told result ≡ apply_answer (server_of S.Store node.now) }
     ensures few { IfOk result (λ _. node.now.applied < 4294967295) }
 {
-    if !node.up {
-        return Err(Refusal::ServerDown);
-    }
+    running(node)?;
     if node.applied < node.commit {
         return Ok(());
     }
@@ -131,9 +136,7 @@ pub fn stop<S: Store + Drop>(node: &mut Node<S>, wish: u32) -> Result<u32, Refus
     ensures after { Goes S.Store node.old (fails (kept_by result)) node.new }
     ensures may { may_keep_at (kept_by result) (server_of S.Store node.old) ≡ true }
 {
-    if !node.up {
-        return Err(Refusal::ServerDown);
-    }
+    running(node)?;
     let kept = node.store.crash(wish as usize);
     node.up = false;
     node.role = Role::Follower;
