@@ -41,10 +41,8 @@ fn got_no<S: Store + Drop>(node: &mut Node<S>, server: ServerId)
     ensures { Goes S.Store node.old (got_no server) node.new }
 {
     let progress = &mut node.progress[place_of(server)];
-    progress.next = progress
-        .next
-        .saturating_sub(1)
-        .max(progress.matched as u32 + 1);
+    let lower = progress.next.saturating_sub(1);
+    progress.next = lower.max(progress.matched as u32 + 1);
 }
 
 fn got_reply<S: Store + Drop>(node: &mut Node<S>, from: ServerId, agreed: Option<u16>)

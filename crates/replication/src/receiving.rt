@@ -1,5 +1,6 @@
 // The receiver of an append request, with all its cases in order.
 ghost use Rattle.std.specs.Prelude.{◌≡◌, suc, ◌<◌, ◌≤◌, min, [], ◌∷◌, ◌++◌, length, take};
+ghost use Rattle.protocol.specs.State.{set_log, set_applied};
 ghost use Rattle.protocol.specs.AppendEntries.{follows, reaches, accepts, accepted, accepted_to, took as took_it, took_to, no_to, hears_append, append_reply};
 ghost use Rattle.node.specs.Meaning.{server_of, Goes};
 
@@ -30,29 +31,14 @@ fn hold<S: Store + Drop>(node: &mut Node<S>, agreed: u32, commit: u32)
     node.commit = node.commit.max(commit.min(agreed));
 }
 
-// Appends an entry, and syncs.
-fn append<S: Store + Drop>(node: &mut Node<S>, agreed: u32, commit: u32, entry: Entry)
-    requires { length (server_of S.Store node.old).log < MAX_ENTRIES }
-    ensures { Goes S.Store node.old (λ s. accepts (s.log ++ entry ∷ []) s.applied agreed commit s) node.new }
-{
-    let _ = node.store.append(entry);
-    hold(node, agreed, commit);
-}
-
-// Puts an entry in the place of all after the first `previous`, and syncs. What was applied above is to be undone.
-fn replace<S: Store + Drop>(
-    node: &mut Node<S>,
-    previous: u32,
-    agreed: u32,
-    commit: u32,
-    entry: Entry,
-)
+// Puts an entry in the place of all after the first `previous`. What was applied above is to be undone.
+fn replace<S: Store + Drop>(node: &mut Node<S>, previous: u32, entry: Entry)
     requires { previous < length (server_of S.Store node.old).log }
-    ensures { Goes S.Store node.old (λ s. accepts (take previous s.log ++ entry ∷ []) (min s.applied previous) agreed commit s) node.new }
+    ensures { Goes S.Store node.old (λ s. set_applied (min s.applied previous) (set_log (take previous s.log ++ entry ∷ []) (min previous s.durable) s)) node.new }
 {
     let _ = node.store.truncate(previous as usize);
+    let _ = node.store.append(entry);
     node.applied = node.applied.min(previous);
-    append(node, agreed, commit, entry);
 }
 
 // One entry with the number after `previous`; the answer is through which entry the logs agree, if it says yes.
@@ -69,22 +55,19 @@ fn accept<S: Store + Drop>(
         follow(node);
         return None;
     }
-    let agreed = previous + 1;
-    let yes = Some(previous as u16 + 1);
-    if previous >= node.len() {
-        append(node, agreed, commit, entry);
-        return yes;
+    match node.held(previous) {
+        Some(held) if held.term == entry.term => {}
+        Some(_) if previous < node.commit => {
+            follow(node);
+            return None;
+        }
+        Some(_) => replace(node, previous, entry),
+        None => {
+            let _ = node.store.append(entry);
+        }
     }
-    if node.term_at(previous) == entry.term {
-        hold(node, agreed, commit);
-        return yes;
-    }
-    if previous < node.commit {
-        follow(node);
-        return None;
-    }
-    replace(node, previous, agreed, commit, entry);
-    yes
+    hold(node, previous + 1, commit);
+    Some(previous as u16 + 1)
 }
 
 // At most one entry; with none, only syncing and commit are left.
@@ -113,7 +96,7 @@ fn no_to<S: Store + Drop>(node: &Node<S>, from: ServerId, to: ServerId) -> Messa
     }
 }
 
-// An append request, taken apart: from, to and term are the message's.
+// An append request; from, to and term are the message's.
 pub fn hear_append<S: Store + Drop>(
     node: &mut Node<S>,
     message: Message,
