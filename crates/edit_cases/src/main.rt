@@ -8,15 +8,6 @@ use std::io;
 use std::io::{BufRead, BufReader};
 use text::edit_in;
 
-fn same_row(first: &Row, second: &Row) -> bool {
-    for (a, b) in first.cells.iter().zip(&second.cells) {
-        if *a != *b {
-            return false;
-        }
-    }
-    true
-}
-
 // Adds the row, with its number, to the text.
 fn add_row(heap: Global, text: &mut String, number: usize, row: &Row) -> Result<(), AllocError> {
     if !text.is_empty() {
@@ -35,11 +26,7 @@ fn add_row(heap: Global, text: &mut String, number: usize, row: &Row) -> Result<
 fn rows_text(heap: Global, sheet: &Sheet, other: Option<&Sheet>) -> Result<String, AllocError> {
     let mut text = String::new(heap);
     for (i, row) in sheet.rows.iter().enumerate() {
-        let wanted = match other {
-            Some(before) if i < 8 => !same_row(&before.rows[i], row),
-            _ => true,
-        };
-        if wanted {
+        if other.and_then(|before| before.rows.get(i)) != Some(row) {
             add_row(heap, &mut text, i.saturating_add(1), row)?;
         }
     }
@@ -52,12 +39,9 @@ fn rows_text(heap: Global, sheet: &Sheet, other: Option<&Sheet>) -> Result<Strin
 // Applies the edit and settles it, and says whether the machine then has the sheet's cells.
 fn agrees<M: StateMachine>(machine: &mut M, edit: Edit, sheet: &Sheet) -> bool {
     let _ = machine.apply(edit);
-    let mut same = true;
-    for row in 1..9 {
-        for size in 1..13 {
-            same = same && machine.read(row, size).ok() == sheet.cell(row, size);
-        }
-    }
+    let same = (1..9).all(|row| {
+        (1..13).all(|size| machine.read(row, size).ok() == sheet.cell(row, size))
+    });
     let _ = machine.settle();
     same
 }

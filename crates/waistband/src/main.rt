@@ -9,12 +9,19 @@ use machine::{Opens, ReplayMachine, StateMachine, UndoMachine};
 use refusal::Refusal;
 use std::io;
 use std::io::{BufRead, BufReader};
-use table::{Cells, NO_CELLS, cells_of, differing, line_of, sizes_line};
+use table::{Cells, NO_CELLS, ROWS, SIZES, cells_of, differing, line_of};
 use text::{difference, millimetres};
 
-fn refused(rt: &HostRuntime, answer: Result<(), Refusal>) -> io::Result<()> {
+// Shows what was answered, or the number of the refusal.
+fn told<T: Drop, F: FnOnce(T) -> io::Result<()>>(
+    rt: &HostRuntime,
+    answer: Result<T, Refusal>,
+    show: F,
+) -> io::Result<()>
+    requires { F.IsAlwaysCallable show }
+{
     match answer {
-        Ok(()) => Ok(()),
+        Ok(value) => show(value),
         Err(refusal) => {
             let number = refusal.number();
             println!(rt; "refused {number}")
@@ -22,55 +29,45 @@ fn refused(rt: &HostRuntime, answer: Result<(), Refusal>) -> io::Result<()> {
     }
 }
 
-fn show(rt: &HostRuntime, cells: &Cells) -> io::Result<()> {
+fn show_sizes(rt: &HostRuntime, label: &str) -> io::Result<()> {
     let heap = rt.alloc();
-    let sizes = sizes_line(heap, "measure")?;
-    println!(rt; "{sizes}")?;
-    for (i, row) in cells.iter().enumerate() {
-        let number = i.saturating_add(1);
-        let label = format!(in heap; "{number}")?;
-        let mut measures = [0; 12];
-        for (measure, cell) in measures.iter_mut().zip(row) {
-            *measure = i32::from(*cell);
-        }
-        let line = line_of(heap, label.as_str(), &measures)?;
-        println!(rt; "{line}")?;
+    let line = line_of(heap, label, &SIZES, |size| format!(in heap; "{size}"))?;
+    println!(rt; "{line}")
+}
+
+fn show_measures(rt: &HostRuntime, label: &str, measures: &[i32]) -> io::Result<()> {
+    let heap = rt.alloc();
+    let line = line_of(heap, label, measures, |tenths| millimetres(heap, tenths))?;
+    println!(rt; "{line}")
+}
+
+fn show(rt: &HostRuntime, cells: &Cells) -> io::Result<()> {
+    show_sizes(rt, "measure")?;
+    for (number, row) in ROWS.iter().zip(cells) {
+        let label = format!(in rt.alloc(); "{number}")?;
+        show_measures(rt, label.as_str(), &row.map(i32::from))?;
     }
     Ok(())
 }
 
-fn show_cell(rt: &HostRuntime, answer: Result<u16, Refusal>) -> io::Result<()> {
-    match answer {
-        Ok(cell) => {
-            let text = millimetres(rt.alloc(), i32::from(cell))?;
-            println!(rt; "{text}")
-        }
-        Err(refusal) => refused(rt, Err(refusal)),
-    }
+fn show_cell(rt: &HostRuntime, cell: u16) -> io::Result<()> {
+    let text = millimetres(rt.alloc(), i32::from(cell))?;
+    println!(rt; "{text}")
 }
 
 // The first row less the second, at each size.
 fn seam<M: StateMachine>(machine: &M, first: i32, second: i32) -> Result<[i32; 12], Refusal> {
-    let mut measures = [0; 12];
-    let mut size = 1;
+    let mut measures = SIZES;
     for measure in measures.iter_mut() {
+        let size = *measure;
         *measure = difference(machine.read(first, size)?, machine.read(second, size)?);
-        size = size.saturating_add(1);
     }
     Ok(measures)
 }
 
-fn show_seam(rt: &HostRuntime, answer: Result<[i32; 12], Refusal>) -> io::Result<()> {
-    match answer {
-        Ok(measures) => {
-            let heap = rt.alloc();
-            let sizes = sizes_line(heap, "size")?;
-            let line = line_of(heap, "seam", &measures)?;
-            println!(rt; "{sizes}")?;
-            println!(rt; "{line}")
-        }
-        Err(refusal) => refused(rt, Err(refusal)),
-    }
+fn show_seam(rt: &HostRuntime, measures: &[i32]) -> io::Result<()> {
+    show_sizes(rt, "size")?;
+    show_measures(rt, "seam", measures)
 }
 
 fn compare(rt: &HostRuntime, marked: &Cells, cells: &Cells) -> io::Result<()> {
@@ -84,39 +81,45 @@ fn step<M: StateMachine>(
     rt: &HostRuntime,
     machine: &mut M,
     marked: &mut Cells,
-    command: Option<Command>,
+    command: Command,
 ) -> io::Result<()> {
-    let Some(command) = command else {
-        return println!(rt; "not a command");
-    };
     match command {
         Command::Say(text) => println!(rt; "{text}"),
-        Command::Apply(edit) => refused(rt, machine.apply(edit)),
-        Command::Undo => refused(rt, machine.undo()),
-        Command::Settle => refused(rt, machine.settle()),
+        Command::Apply(edit) => told(rt, machine.apply(edit), |()| Ok(())),
+        Command::Undo => told(rt, machine.undo(), |()| Ok(())),
+        Command::Settle => told(rt, machine.settle(), |()| Ok(())),
         Command::Reset => {
             machine.reset();
             Ok(())
         }
         Command::Show => show(rt, &cells_of(machine)),
-        Command::Cell(row, size) => show_cell(rt, machine.read(row, size)),
+        Command::Cell(row, size) => told(rt, machine.read(row, size), |cell| show_cell(rt, cell)),
         Command::Mark => {
             *marked = cells_of(machine);
             Ok(())
         }
         Command::Same => compare(rt, marked, &cells_of(machine)),
-        Command::Seam(first, second) => show_seam(rt, seam(machine, first, second)),
+        Command::Seam(first, second) => {
+            told(
+                rt,
+                seam(machine, first, second),
+                |measures| show_seam(rt, &measures),
+            )
+        }
     }
 }
 
-fn run<M: StateMachine>(rt: &HostRuntime, machine: &mut M, lines: &[Vec<u8>]) -> io::Result<()> {
+fn run<M: Opens + Drop>(rt: &HostRuntime, lines: &[Vec<u8>]) -> io::Result<()> {
+    let mut machine = M::open(rt.alloc())?;
     let mut marked = NO_CELLS;
     for line in lines {
-        let command = match std::str::from_utf8(line.as_slice()) {
-            Ok(text) => command_in(text),
-            Err(_) => None,
-        };
-        step(rt, machine, &mut marked, command)?;
+        match std::str::from_utf8(line.as_slice())
+            .ok()
+            .and_then(command_in)
+        {
+            Some(command) => step(rt, &mut machine, &mut marked, command)?,
+            None => println!(rt; "not a command")?,
+        }
     }
     Ok(())
 }
@@ -128,9 +131,7 @@ fn main(rt: HostRuntime) -> io::Result<()> {
         lines.push(line?)?;
     }
     println!(rt; "machine: undo")?;
-    let mut undo = UndoMachine::open(heap)?;
-    run(&rt, &mut undo, lines.as_slice())?;
+    run::<UndoMachine>(&rt, lines.as_slice())?;
     println!(rt; "machine: replay")?;
-    let mut replay = ReplayMachine::open(heap)?;
-    run(&rt, &mut replay, lines.as_slice())
+    run::<ReplayMachine>(&rt, lines.as_slice())
 }

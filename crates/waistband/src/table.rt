@@ -5,11 +5,14 @@ ghost use Rattle.machine.specs.States.{newest};
 
 use machine::StateMachine;
 use std::alloc::{AllocError, Global};
-use text::millimetres;
 
 pub type Cells = [[u16; 12]; 8];
 
 pub const NO_CELLS: Cells = [[0; 12]; 8];
+
+pub const ROWS: [i32; 8] = [1, 2, 3, 4, 5, 6, 7, 8];
+
+pub const SIZES: [i32; 12] = [1, 2, 3, 4, 5, 6, 7, 8, 9, 10, 11, 12];
 
 // A cell of the newest sheet, and 0 where there is none.
 pub(crate) fn cell_at<M: StateMachine>(machine: &M, row: i32, size: i32) -> u16
@@ -20,46 +23,28 @@ pub(crate) fn cell_at<M: StateMachine>(machine: &M, row: i32, size: i32) -> u16
 
 // Every cell of the newest sheet.
 pub(crate) fn cells_of<M: StateMachine>(machine: &M) -> Cells {
-    let mut cells = NO_CELLS;
-    for (i, row) in cells.iter_mut().enumerate() {
-        for (j, cell) in row.iter_mut().enumerate() {
-            if i < 8 && j < 12 {
-                *cell = cell_at(machine, i as i32 + 1, j as i32 + 1);
-            }
-        }
-    }
-    cells
+    ROWS.map(|row| SIZES.map(|size| cell_at(machine, row, size)))
 }
 
 // How many cells differ.
 pub(crate) fn differing(first: &Cells, second: &Cells) -> usize {
-    let mut count = 0usize;
-    for (a, b) in first.iter().zip(second) {
-        for (x, y) in a.iter().zip(b) {
-            if *x != *y {
-                count = count.saturating_add(1);
-            }
-        }
-    }
-    count
+    let pairs = first.iter().flatten().zip(second.iter().flatten());
+    pairs.filter(|(a, b)| a != b).count()
 }
 
-// A label, and each measure in millimetres.
-pub(crate) fn line_of(heap: Global, label: &str, measures: &[i32]) -> Result<String, AllocError> {
+// A label, and the text of each number.
+pub(crate) fn line_of<F: Fn(i32) -> Result<String, AllocError>>(
+    heap: Global,
+    label: &str,
+    numbers: &[i32],
+    text_of: F,
+) -> Result<String, AllocError>
+    requires { F.IsAlwaysCallable text_of }
+{
     let mut line = format!(in heap; "{label:>7}")?;
-    for tenths in measures {
-        let text = millimetres(heap, *tenths)?;
+    for number in numbers {
+        let text = text_of(*number)?;
         let padded = format!(in heap; "{text:>8}")?;
-        line.push_str(padded.as_str())?;
-    }
-    Ok(line)
-}
-
-// A label, and the numbers of the sizes.
-pub(crate) fn sizes_line(heap: Global, label: &str) -> Result<String, AllocError> {
-    let mut line = format!(in heap; "{label:>7}")?;
-    for size in 1..13 {
-        let padded = format!(in heap; "{size:>8}")?;
         line.push_str(padded.as_str())?;
     }
     Ok(line)
