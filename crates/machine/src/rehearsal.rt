@@ -12,14 +12,13 @@ pub fn apply_all<M: StateMachine>(machine: &mut M, edits: &[Edit]) -> usize
 {
     let mut applied = 0;
     for edit in edits {
-        if machine.apply(*edit).is_ok() {
-            applied += 1;
-        }
+        applied += usize::from(machine.apply(*edit).is_ok());
     }
     applied
 }
 
 // Undoes as often as that, as far as there are edits to take back.
+// Kept: apart from the server's settling as often; by a closure the loop of two lines has a longer contract than both together.
 pub fn undo_times<M: StateMachine>(machine: &mut M, times: usize)
     ensures { M.states machine.new ≡ undone_times times (M.states machine.old) }
 {

@@ -5,7 +5,7 @@ ghost use Rattle.std.specs.Prelude.{◌≡◌, ◌<◌};
 
 use machine::rehearsal::{apply_all, undo_times};
 use machine::{Opens, StateMachine};
-use sheet::Edit;
+use sheet::{Edit, Kind};
 use std::alloc::Global;
 use std::array;
 
@@ -18,7 +18,7 @@ fn grade_edit(n: u32, k: u32) -> Edit
     let a = ((n % 50 + k) % 50) as i32 - 10;
     let q = (k % 4 + 1) as i32;
     Edit {
-        kind: 2,
+        kind: Kind::Grade.into(),
         row,
         size,
         a,
@@ -51,26 +51,22 @@ fn settled<M: StateMachine>(machine: &mut M, edit: Edit) {
 // Every cell becomes 10,000.
 fn filled<M: StateMachine>(machine: &mut M) {
     for row in 1..9 {
-        settled(
-            machine,
-            Edit {
-                kind: 1,
-                row,
-                size: 1,
-                a: 10_000,
-                q: 0,
-            },
-        );
-        settled(
-            machine,
-            Edit {
-                kind: 2,
-                row,
-                size: 1,
-                a: 0,
-                q: 1,
-            },
-        );
+        let set = Edit {
+            kind: Kind::Set.into(),
+            row,
+            size: 1,
+            a: 10_000,
+            q: 0,
+        };
+        let grade = Edit {
+            kind: Kind::Grade.into(),
+            row,
+            size: 1,
+            a: 0,
+            q: 1,
+        };
+        settled(machine, set);
+        settled(machine, grade);
     }
 }
 
