@@ -1,41 +1,45 @@
 -- A line, from what was read of it and what was made of that.
-use Rattle.std.proofs.Common.{◌≡◌, ℕ, List, sym, ap, ◌∙◌, subst}
-use Rattle.protocol.specs.declared.ServerId.TheVariants.{One, Two, Three}
+use Rattle.std.proofs.Common.{◌≡◌, ℕ, List, Some, None, Option, Ok, Err, Result, refl, sym, subst}
+use Rattle.refusal.specs.declared.Refusal.{Refusal}
+use Rattle.refusal.specs.Numbers.{told}
 use Rattle.protocol.specs.State.{Machine, Cluster as Model}
 use Rattle.cluster.specs.Called.{Called}
 use Rattle.command.specs.declared.types.Command.{Command}
-use Rattle.command.specs.declared.types.Answer.{Answer}
-use Rattle.command.specs.declared.types.Answer.TheVariants.{NoCommand}
-use Rattle.command.specs.Grammar.{Reads}
-use Rattle.command.specs.declared.types.ServerLine.{ServerLine}
-use Rattle.command.specs.declared.types.Ending.{Ending}
-use Rattle.command.specs.Shown.{shown}
-use Rattle.command.specs.Told.{number_shown, ending_of}
+use Rattle.command.specs.declared.types.Told.{Told}
+use Rattle.command.specs.declared.types.Problem.{Problem}
+use Rattle.command.specs.declared.types.Problem.TheVariants.{NoCommand, Refused}
+use Rattle.command.specs.Grammar.{FindsOnly, Reads}
 use Rattle.session.specs.Made.{call_of, kept_in, answer_of}
-use Rattle.session.specs.Answered.{server_told, Answered}
+use Rattle.session.specs.Answered.{told_problem, Heeds}
 
-module _ {X : Type 0} (K : Machine X) (line text : List ℕ) (before later : Model X) (a : Answer)
-    (n : ℕ) (e : Ending) (one two three : ServerLine) (writes : text ≡ shown n one two three e) (number : n ≡ number_shown a) (ending : e ≡ ending_of a)
-    (first : one ≡ server_told (later.core.server One)) (second : two ≡ server_told (later.core.server Two)) (third : three ≡ server_told (later.core.server Three)) where
-  tells : text ≡ shown (number_shown a) (server_told (later.core.server One)) (server_told (later.core.server Two)) (server_told (later.core.server Three)) (ending_of a)
-  tells = writes ∙ (ap (λ m. shown m one two three e) number ∙ (ap (λ s. shown (number_shown a) s two three e) first
-      ∙ (ap (λ s. shown (number_shown a) (server_told (later.core.server One)) s three e) second
-      ∙ (ap (λ s. shown (number_shown a) (server_told (later.core.server One)) (server_told (later.core.server Two)) s e) third
-      ∙ ap (shown (number_shown a) (server_told (later.core.server One)) (server_told (later.core.server Two)) (server_told (later.core.server Three))) ending))))
+-- it was read as none
+module _ {X : Type 0} (K : Machine X) (line : List ℕ) (before : Model X) where
+  pub unread_line : (read : Option Command) → FindsOnly read (Reads line) → read ≡ None → (a : Result Told Problem) → a ≡ Err NoCommand → Heeds K line a before before
+  unread_line read f e a p =
+      let none : (k : Command) → Reads line k → ⊥ = subst (λ (o : Option Command). FindsOnly o (Reads line)) e f in
+      record { made = λ k r. absurd (none k r); unread = λ _. (p, refl) }
 
-  -- it was read as the command k
-  pub line_read : (k : Command) → Reads line k × ((y : Command) → Reads line y → y ≡ k) → (b : Answer) (made : Model X) → a ≡ b → later ≡ made
-      → Called K (call_of k (kept_in b)) (answer_of b) before made → Answered K line text before later
-  line_read k only b made e f c =
-      let c₁ = subst (λ (m : Model X). Called K (call_of k (kept_in b)) (answer_of b) before m) (sym f) c in
-      let c₂ = subst (λ (x : Answer). Called K (call_of k (kept_in x)) (answer_of x) before later) (sym e) c₁ in
+-- it was read as the command k
+module _ {X : Type 0} (K : Machine X) (line : List ℕ) (before later : Model X) where
+  read_line : (read : Option Command) → FindsOnly read (Reads line) → (k : Command) → read ≡ Some k → (a : Result Told Problem)
+      → Called K (call_of k (kept_in a)) (answer_of (told_problem a)) before later → Heeds K line a before later
+  read_line read f k e a c =
+      let only : Reads line k × ((y : Command) → Reads line y → y ≡ k) = subst (λ (o : Option Command). FindsOnly o (Reads line)) e f in
       record {
-        answer = a;
-        made = λ y r. subst (λ (z : Command). Called K (call_of z (kept_in a)) (answer_of a) before later) (sym (only.1 y r)) c₂;
+        made = λ y r. subst (λ (z : Command). Called K (call_of z (kept_in a)) (answer_of (told_problem a)) before later) (sym (only.1 y r)) c;
         unread = λ none. absurd (none k only.0);
-        shows = tells;
       }
 
-  -- it was read as none
-  pub line_unread : ((k : Command) → Reads line k → ⊥) → a ≡ NoCommand → later ≡ before → Answered K line text before later
-  line_unread none e f = record { answer = a; made = λ k r. absurd (none k r); unread = λ _. (e, f); shows = tells }
+  abbrev pub Made : Command → Result Told Refusal → Type 0
+  Made k made = Called K (call_of k (kept_in made)) (answer_of (told made)) before later
+
+  -- and the call was answered
+  pub answered_line : (read : Option Command) → FindsOnly read (Reads line) → (k : Command) → read ≡ Some k → (made : Result Told Refusal)
+      → Made k made → (x : Told) → made ≡ Ok x → Heeds K line (Ok x) before later
+  answered_line read f k e made c x p = read_line read f k e (Ok x) (subst (λ (r : Result Told Refusal). Made k r) p c)
+
+  -- or refused
+  pub refused_line : (read : Option Command) → FindsOnly read (Reads line) → (k : Command) → read ≡ Some k → (made : Result Told Refusal)
+      → Made k made → (x : Refusal) → made ≡ Err x → (a : Result Told Problem) → a ≡ Err (Refused x) → Heeds K line a before later
+  refused_line read f k e made c x p a q =
+      subst (λ (r : Result Told Problem). Heeds K line r before later) (sym q) (read_line read f k e (Err (Refused x)) (subst (λ (r : Result Told Refusal). Made k r) p c))

@@ -5,6 +5,6 @@ mod answering;
 mod making;
 mod running;
 
-pub use answering::{answer_line, server_line};
+pub use answering::answer_line;
 pub use making::make;
 pub use running::run_commands;

@@ -6,8 +6,9 @@ ghost use Rattle.session.specs.Ran.{Ran};
 
 use crate::making::make;
 use cluster::Cluster;
-use command::{Answer, Command};
+use command::{Command, Told};
 use machine::StateMachine;
+use refusal::Refusal;
 use std::alloc::{AllocError, Global};
 use store::Store;
 
@@ -18,8 +19,8 @@ pub fn run_commands<S: Store + Drop, M: StateMachine + Drop>(
     second: (S, M),
     third: (S, M),
     commands: &[Command],
-) -> Result<(Cluster<S, M>, Vec<Answer>), AllocError>
-    ensures { IfOk result (λ x. Ran (kind_of M.StateMachine.opening M.StateMachine.next M.StateMachine.cell) commands.now x.1.items (cluster_of S.Store.meaning M.StateMachine.states (kind_of M.StateMachine.opening M.StateMachine.next M.StateMachine.cell) x.0)) }
+) -> Result<(Cluster<S, M>, Vec<Result<Told, Refusal>>), AllocError>
+    ensures { IfOk result (λ x. Ran (kind_of M.StateMachine) commands.now x.1.items (cluster_of x.0)) }
 {
     let mut cluster = Cluster::open(heap, first, second, third)?;
     let mut answers = Vec::with_capacity(heap, commands.len())?;

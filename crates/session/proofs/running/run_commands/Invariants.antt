@@ -6,6 +6,6 @@ use Rattle.session.proofs.running.run_commands.Given as goal
 
 abbrev pub invariant-loop-command : goal.invariant-loop-command
 invariant-loop-command g l =
-    let K = kind_of g.M.StateMachine.opening g.M.StateMachine.next g.M.StateMachine.cell in
+    let K = kind_of g.M.StateMachine in
     (length l.commands ≤ vec_capacity l.answers)
-    × Ran K (take l.command-index l.commands) (vec_items l.answers) (cluster_of g.S.Store.meaning g.M.StateMachine.states K l.cluster)
+    × Ran K (take l.command-index l.commands) (vec_items l.answers) (cluster_of l.cluster)
