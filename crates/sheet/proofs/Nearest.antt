@@ -1,12 +1,12 @@
 -- What grading gives is the nearest whole number, and the only one.
-use Rattle.std.proofs.Common.{◌≡◌, ℕ, zero, suc, ◌+◌, ◌*◌, ◌<◌, true, ◌&&◌, List, [], ◌∷◌, map, length, get_or, ℤ, pos, negsuc, ◌+ℤ◌, ◌-ℤ◌, ◌*ℤ◌, nat_abs, ◌≤ℤ◌, ◌<ℤ◌, IfSome, None, Option, sym, refl, ap, ◌∙◌, subst, add-mul, arith}
+use Rattle.std.proofs.Common.{◌≡◌, ℕ, zero, suc, ◌+◌, ◌*◌, ◌<◌, true, List, [], ◌∷◌, map, length, get_or, ℤ, pos, negsuc, ◌+ℤ◌, ◌-ℤ◌, ◌*ℤ◌, nat_abs, ◌≤ℤ◌, ◌<ℤ◌, IfSome, None, Option, sym, refl, ap, ◌∙◌, subst, add-mul, arith}
 use lib.IntN.{*ℤ_comm}
 use Rattle.std.specs.List.{range_with_len}
 use Rattle.std.proofs.lemmas.Int.{ints, by_lt_z}
 use Rattle.std.proofs.lemmas.Nat.{mul-le}
 use Rattle.std.proofs.lemmas.List.FromFn.{get_or-map-range_with_len}
 use Rattle.std.proofs.lemmas.Bool.{false≢true, and_parts, cond_both, cond-true}
-use Rattle.sheet.specs.Rules.{between, is_size, in_range, all_in_range, fitted, place, floor_div, graded, graded_cells, grade_row}
+use Rattle.sheet.specs.Rules.{may_grade, in_range, all_in_range, fitted, place, floor_div, graded, graded_cells, grade_row}
 use Rattle.sheet.specs.Grading.{Nearest, Grades, Graded}
 use Rattle.sheet.proofs.Ints.{floors}
 
@@ -75,7 +75,7 @@ graded_nearest old size a (pos q) h o e =
     (λ t. tt))
 
 -- what grading by numbers in their ranges makes of a row
-pub grade_is : (old : List ℕ) (base : ℕ) (size a q s b r : ℤ) → (is_size size && (between (negsuc 99999) (pos 100000) a && between (pos 1) (pos 1000) q)) ≡ true
+pub grade_is : (old : List ℕ) (base : ℕ) (size a q s b r : ℤ) → may_grade size a q ≡ true
     → base ≡ get_or old (place size) 0 → s ≡ size → b ≡ a → r ≡ q → pos 1 ≤ℤ r → (o : Option (List ℕ)) → o ≡ fitted (graded_cells base s b r)
     → (o ≡ grade_row old size a q) × IfSome o (Graded old size a q)
 grade_is old base size a q s b r t at_base at_size at_a at_q h o e =

@@ -59,9 +59,12 @@ graded base size a q s = pos base +ℤ floor_div (pos 2 *ℤ (s -ℤ size) *ℤ 
 unfoldable pub graded_cells : (base : ℕ) (size a q : ℤ) → List ℤ
 graded_cells base size a q = map (λ (s : ℕ). graded base size a q (pos s)) (range_with_len 1 12)
 
+abbrev pub may_grade : (size a q : ℤ) → Bool
+may_grade size a q = is_size size && (between (negsuc 99999) (pos 100000) a && between (pos 1) (pos 1000) q)
+
 abbrev pub grade_row : List ℕ → (size a q : ℤ) → Option (List ℕ)
 grade_row old size a q =
-    cond (is_size size && (between (negsuc 99999) (pos 100000) a && between (pos 1) (pos 1000) q))
+    cond (may_grade size a q)
     (fitted (graded_cells (slice_index old (place size)) size a q)) None
 
 -- What an edit makes of the row that it names; none where it changes nothing or is set aside. Kind 3 copies row number a.

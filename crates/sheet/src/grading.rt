@@ -1,7 +1,7 @@
 // One row: a cell set, or the whole row graded.
-ghost use Rattle.std.specs.Prelude.{◌≡◌, ℕ, ◌+◌, ◌<◌, ◌≤◌, true, false, ◌&&◌, ℤ, pos, negsuc, ◌≤ℤ◌, IfSome, MatchOption, slice_index};
+ghost use Rattle.std.specs.Prelude.{◌≡◌, ℕ, ◌+◌, ◌<◌, ◌≤◌, true, false, ℤ, pos, negsuc, ◌≤ℤ◌, IfSome, MatchOption, slice_index};
 ghost use Rattle.sheet.specs.Cells.{row_in};
-ghost use Rattle.sheet.specs.Rules.{between, is_size, in_range, place, graded, set_row, grade_row};
+ghost use Rattle.sheet.specs.Rules.{between, in_range, place, may_grade, graded, set_row, grade_row};
 ghost use Rattle.sheet.specs.Grading.{Graded};
 
 use super::types::{CELL_MAX, Row};
@@ -43,7 +43,7 @@ struct Grading {
 impl Grading {
     // Nothing where a number is out of its range.
     fn of(row: Row, size: i32, a: i32, q: i32) -> Option<Grading>
-        ensures { MatchOption result (is_size size && (between (negsuc 99999) (pos 100000) a && between (pos 1) (pos 1000) q) ≡ false) (λ g. (is_size size && (between (negsuc 99999) (pos 100000) a && between (pos 1) (pos 1000) q) ≡ true) × (g.base ≡ slice_index row.cells (place size)) × (g.size ≡ size) × (g.a ≡ a) × (g.q ≡ q)) }
+        ensures { MatchOption result (may_grade size a q ≡ false) (λ g. (may_grade size a q ≡ true) × (g.base ≡ slice_index row.cells (place size)) × (g.size ≡ size) × (g.a ≡ a) × (g.q ≡ q)) }
     {
         let base = row.cells[place_of::<12>(size)?];
         match (a, q) {
