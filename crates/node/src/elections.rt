@@ -22,6 +22,7 @@ pub fn not_below(a: (u32, u32), b: (u32, u32)) -> bool
 }
 
 // Whether a vote given so far leaves this candidate.
+// Kept: a vote is a number, 0 for none, as the records of a store have it.
 fn may_vote(vote: u16, candidate: ServerId) -> bool
     ensures { result ≡ may_vote vote candidate }
 {

@@ -33,10 +33,7 @@ impl<S: Store + Drop> Node<S> {
     pub fn tip(&self, number: u32) -> u32
         ensures { result ≡ tip (server_of S.Store self.now).log number }
     {
-        if number == 0 {
-            return 0;
-        }
-        self.term_at(number - 1)
+        number.checked_sub(1).map_or(0, |i| self.term_at(i))
     }
 
     // How far the log has come: its last term and its length.
