@@ -123,22 +123,15 @@ impl<S: Store + Drop> Node<S> {
         ensures after { server_of S.Store self.new ≡ hears_vote_request (server_of S.Store self.old) from term pair }
         ensures says { result ≡ vote_reply (server_of S.Store self.old) from to term pair }
     {
-        let own = self.store.term();
-        if self.grants(from, term, pair) {
+        let yes = self.grants(from, term, pair);
+        if yes {
             self.vote_for(from);
-            Message {
-                from: to,
-                to: from,
-                term,
-                body: Body::VoteReply(true),
-            }
-        } else {
-            Message {
-                from: to,
-                to: from,
-                term: own,
-                body: Body::VoteReply(false),
-            }
+        }
+        Message {
+            from: to,
+            to: from,
+            term: self.store.term(),
+            body: Body::VoteReply(yes),
         }
     }
 
