@@ -16,6 +16,7 @@ pub struct Progress {
     pub matched: u16,
 }
 
+// Kept: no impl Model, since the protocol's server holds functions, for which the check finds no code.
 #[derive(Drop)]
 pub struct Node<S: Store + Drop> {
     pub up: bool,
