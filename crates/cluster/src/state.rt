@@ -7,6 +7,7 @@ use server::Server;
 use store::Store;
 
 // At most 24 messages in order of posting, in memory that is reserved at opening.
+// Kept: no call may run out of memory, so the room for all 24 stands beside the Vec as a fact.
 #[derive(Drop)]
 pub struct Network {
     pub(crate) messages: Vec<Message>,

@@ -1,5 +1,5 @@
 // What a message or a call does to a node, its machine apart.
-ghost use Rattle.std.specs.Prelude.{MatchResult, false, ◌≡◌, ◌<◌, true, T, [], ◌∷◌, ◌++◌, length, IfOk};
+ghost use Rattle.std.specs.Prelude.{◌≡◌, ◌<◌, true, false, T, [], ◌∷◌, ◌++◌, length, IfOk, MatchResult};
 ghost use Rattle.refusal.specs.declared.Refusal.TheVariants.{ServerDown};
 ghost use Rattle.refusal.specs.Numbers.{told};
 ghost use Rattle.protocol.specs.Elections.{caught_up};
