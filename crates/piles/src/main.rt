@@ -1,82 +1,62 @@
 // piles: runs one list of commands on every store with every machine, and prints what they answer.
 #![tactic(auto)]
 
-mod fresh;
 mod telling;
 
 use buffered_store::BufferedStore;
 use byte_store::ByteStore;
 use command::{Command, command_in};
-use fresh::Fresh;
-use machine::{ReplayMachine, StateMachine, UndoMachine};
-use session::run_commands;
+use machine::{Opens, ReplayMachine, UndoMachine};
+use session::{parts, run_commands};
 use std::alloc::{AllocError, Global};
 use std::io;
 use std::io::{BufRead, BufReader, BufWriter, Write};
-use store::{RecordStore, Store};
-use telling::{answer_text, servers_text};
+use store::{OpensEmpty, RecordStore};
+use telling::{InWords, servers_text};
 
 type Buffered = BufferedStore<RecordStore>;
 
-fn parts<S: Fresh, M: Fresh + Drop>(heap: Global) -> Result<(S, M), AllocError> {
-    let machine = M::fresh(heap)?;
-    Ok((S::fresh(heap)?, machine))
-}
-
 // Runs the commands from the opening: the text of each answer, and of the servers at the end.
-fn run<S: Store + Fresh + Drop, M: StateMachine + Fresh + Drop>(
+fn run<S: OpensEmpty + Drop, M: Opens + Drop>(
     heap: Global,
     commands: &[Command],
 ) -> Result<Vec<String>, AllocError> {
     let first = parts::<S, M>(heap)?;
-    let second = parts::<S, M>(heap)?;
-    let third = parts::<S, M>(heap)?;
-    let (cluster, answers) = run_commands(heap, first, second, third, commands)?;
+    let (cluster, answers) = run_commands(heap, first, parts(heap)?, parts(heap)?, commands)?;
     let mut lines = Vec::new(heap);
     for answer in answers.iter() {
-        lines.push(answer_text(heap, *answer)?)?;
+        let answer = InWords(*answer);
+        lines.push(format!(in heap; "{answer}")?)?;
     }
     lines.push(servers_text(heap, &cluster)?)?;
     Ok(lines)
 }
 
-fn run_all(heap: Global, commands: &[Command]) -> Result<Vec<Vec<String>>, AllocError> {
-    let mut piles = Vec::new(heap);
-    piles.push(run::<RecordStore, UndoMachine>(heap, commands)?)?;
-    piles.push(run::<RecordStore, ReplayMachine>(heap, commands)?)?;
-    piles.push(run::<ByteStore, UndoMachine>(heap, commands)?)?;
-    piles.push(run::<ByteStore, ReplayMachine>(heap, commands)?)?;
-    piles.push(run::<Buffered, UndoMachine>(heap, commands)?)?;
-    piles.push(run::<Buffered, ReplayMachine>(heap, commands)?)?;
-    Ok(piles)
+fn run_all(heap: Global, commands: &[Command]) -> Result<[Vec<String>; 6], AllocError> {
+    Ok([
+        run::<RecordStore, UndoMachine>(heap, commands)?,
+        run::<RecordStore, ReplayMachine>(heap, commands)?,
+        run::<ByteStore, UndoMachine>(heap, commands)?,
+        run::<ByteStore, ReplayMachine>(heap, commands)?,
+        run::<Buffered, UndoMachine>(heap, commands)?,
+        run::<Buffered, ReplayMachine>(heap, commands)?,
+    ])
 }
 
 // What the piles say at a place: once where they agree, else one after the other.
 fn joined(heap: Global, piles: &[Vec<String>], place: usize) -> Result<String, AllocError> {
-    let mut text = String::new(heap);
-    let mut agree = true;
-    for pile in piles {
-        let Some(said) = pile.get(place) else {
-            continue;
-        };
-        if text.is_empty() {
-            text.push_str(said.as_str())?;
-        } else if said.as_str() != text.as_str() {
-            agree = false;
-        }
-    }
-    if agree {
-        return Ok(text);
-    }
     let mut all = String::new(heap);
-    for pile in piles {
-        let Some(said) = pile.get(place) else {
-            continue;
-        };
-        if !all.is_empty() {
-            all.push_str(" | ")?;
-        }
-        all.push_str(said.as_str())?;
+    let mut said = piles.iter().filter_map(|pile| pile.get(place));
+    let Some(first) = said.next() else {
+        return Ok(all);
+    };
+    all.push_str(first.as_str())?;
+    if piles.iter().all(|pile| pile.get(place) == Some(first)) {
+        return Ok(all);
+    }
+    for text in said {
+        all.push_str(" | ")?;
+        all.push_str(text.as_str())?;
     }
     Ok(all)
 }
@@ -97,7 +77,7 @@ fn main(rt: HostRuntime) -> io::Result<()> {
     let piles = run_all(heap, commands.as_slice())?;
     let mut out = BufWriter::new(heap, rt.stdout())?;
     for place in 0..=commands.len() {
-        let text = joined(heap, piles.as_slice(), place)?;
+        let text = joined(heap, &piles, place)?;
         out.write_all(text.as_bytes())?;
         out.write_all(b"\n")?;
     }

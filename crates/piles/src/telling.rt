@@ -1,25 +1,31 @@
 // Answers and servers as text.
 use cluster::Cluster;
-use command::{Answer, word};
+use command::Told;
 use machine::StateMachine;
 use protocol::ServerId;
-use session::server_line;
+use refusal::Refusal;
 use std::alloc::{AllocError, Global};
+use std::fmt;
 use store::Store;
 
-pub(crate) fn answer_text(heap: Global, answer: Answer) -> Result<String, AllocError> {
-    match answer {
-        Answer::NoCommand => String::from_str(heap, "no command"),
-        Answer::Refused(refusal) => {
-            let number = refusal.number();
-            format!(in heap; "refused {number}")
+// An answer, in words.
+#[derive(Clone, Copy)]
+pub(crate) struct InWords(pub(crate) Result<Told, Refusal>);
+
+impl fmt::Display for InWords {
+    fn fmt<W: fmt::Write>(&self, f: &mut fmt::Formatter<W>) -> fmt::Result {
+        match self.0 {
+            Err(refusal) => {
+                let number = refusal.number();
+                write!(f, "refused {number}")
+            }
+            Ok(Told::Done) => write!(f, "done"),
+            Ok(Told::Lost(count)) => write!(f, "lost {count}"),
+            Ok(Told::Ticket { number, term }) => write!(f, "ticket {number} {term}"),
+            Ok(Told::Kept(count)) => write!(f, "keeps {count}"),
+            Ok(Told::Standing(standing)) => write!(f, "{standing}"),
+            Ok(Told::Cell(tenths)) => write!(f, "cell {tenths}"),
         }
-        Answer::Done => String::from_str(heap, "done"),
-        Answer::Lost(count) => format!(in heap; "lost {count}"),
-        Answer::Ticket { number, term } => format!(in heap; "ticket {number} {term}"),
-        Answer::Kept(count) => format!(in heap; "keeps {count}"),
-        Answer::Told(standing) => String::from_str(heap, word(standing)),
-        Answer::Cell(tenths) => format!(in heap; "cell {tenths}"),
     }
 }
 
@@ -28,8 +34,8 @@ pub(crate) fn servers_text<S: Store + Drop, M: StateMachine + Drop>(
     heap: Global,
     cluster: &Cluster<S, M>,
 ) -> Result<String, AllocError> {
-    let one = server_line(cluster.status(ServerId::One));
-    let two = server_line(cluster.status(ServerId::Two));
-    let three = server_line(cluster.status(ServerId::Three));
+    let one = cluster.status(ServerId::One);
+    let two = cluster.status(ServerId::Two);
+    let three = cluster.status(ServerId::Three);
     format!(in heap; "{one} {two} {three}")
 }

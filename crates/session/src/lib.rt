@@ -3,8 +3,10 @@
 
 mod answering;
 mod making;
+mod opening;
 mod running;
 
 pub use answering::answer_line;
 pub use making::make;
+pub use opening::{open, parts};
 pub use running::run_commands;

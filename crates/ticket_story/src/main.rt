@@ -5,19 +5,14 @@ mod held;
 
 use buffered_store::BufferedStore;
 use cluster::{Cluster, Outcome};
-use held::{Closing, Held};
+use held::{Closing, close, write_off};
 use machine::UndoMachine;
+use session::open;
 use sheet::Edit;
-use std::alloc::{AllocError, Global};
 use std::io;
 use store::RecordStore;
 
 type Servers = Cluster<BufferedStore<RecordStore>, UndoMachine>;
-
-fn parts(heap: Global) -> Result<(BufferedStore<RecordStore>, UndoMachine), AllocError> {
-    let store = BufferedStore::open(heap, RecordStore::open(heap)?)?;
-    Ok((store, UndoMachine::open(heap)?))
-}
 
 // An edit that sets the cell at row 1 and size 5.
 fn sets(a: i32) -> Edit {
@@ -41,11 +36,12 @@ fn grades(a: i32) -> Edit {
     }
 }
 
-// A server gets its second vote from another, whose request has the given position.
+// A server gets its second vote from another, whose request has the given position; the other request is lost.
 fn elect(cluster: &mut Servers, server: u32, position: u32) {
     let _ = cluster.campaign(server);
     let _ = cluster.deliver(position, false);
     let _ = cluster.deliver(2, false);
+    let _ = cluster.lose(1);
 }
 
 // A leader makes its log durable, sends the next entry to another server, and hears the reply.
@@ -59,35 +55,33 @@ fn replicate(cluster: &mut Servers, leader: u32, other: u32) {
 // Server 1 leads, and commits the first of three edits; server 2 takes over, and commits another in place of the second.
 fn story(cluster: &mut Servers) -> [Closing; 7] {
     elect(cluster, 1, 1);
-    let _ = cluster.lose(1);
-    let base = Held::of(cluster.propose_ticket(1, sets(7200)));
+    let base = cluster.propose_ticket(1, sets(7200)).ok();
     replicate(cluster, 1, 2);
-    let waistband = Held::of(cluster.propose_ticket(1, grades(415)));
-    let seam = Held::of(cluster.propose_ticket(1, sets(7240)));
-    let (base, first) = base.close(cluster, 1);
-    let (waistband, second) = waistband.close(cluster, 1);
+    let waistband = cluster.propose_ticket(1, grades(415)).ok();
+    let seam = cluster.propose_ticket(1, sets(7240)).ok();
+    let (base, first) = close(base, cluster, 1);
+    let (waistband, second) = close(waistband, cluster, 1);
     elect(cluster, 2, 2);
-    let _ = cluster.lose(1);
-    let other = Held::of(cluster.propose_ticket(2, grades(425)));
-    replicate(cluster, 2, 3);
-    replicate(cluster, 2, 3);
-    replicate(cluster, 2, 3);
-    let (waistband, third) = waistband.close(cluster, 2);
-    let (seam, fourth) = seam.close(cluster, 2);
-    let (seam, fifth) = seam.close(cluster, 4);
+    let other = cluster.propose_ticket(2, grades(425)).ok();
+    for _ in 0..3 {
+        replicate(cluster, 2, 3);
+    }
+    let (waistband, third) = close(waistband, cluster, 2);
+    let (seam, fourth) = close(seam, cluster, 2);
+    let (seam, fifth) = close(seam, cluster, 4);
     let _ = cluster.outage(3, 0);
-    let (seam, sixth) = seam.close(cluster, 3);
-    let (other, seventh) = other.close(cluster, 2);
-    base.write_off();
-    waistband.write_off();
-    seam.write_off();
-    other.write_off();
+    let (seam, sixth) = close(seam, cluster, 3);
+    let (other, seventh) = close(other, cluster, 2);
+    write_off(base);
+    write_off(waistband);
+    write_off(seam);
+    write_off(other);
     [first, second, third, fourth, fifth, sixth, seventh]
 }
 
 fn main(rt: HostRuntime) -> io::Result<()> {
     let heap = rt.alloc();
-    let mut cluster = Cluster::open(heap, parts(heap)?, parts(heap)?, parts(heap)?)?;
+    let mut cluster: Servers = open(heap)?;
     for closing in story(&mut cluster) {
         let number = closing.number;
         let term = closing.term;
