@@ -1,5 +1,4 @@
 pub mod Cases
-pub mod Terms
 pub mod Reading
 pub mod Back
 pub mod Writes

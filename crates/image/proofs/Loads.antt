@@ -26,33 +26,12 @@ pub told_ok : {X : Type 0} (r : Result X Refusal) (x : X) → told r ≡ Ok x �
 told_ok (Ok y) x e = ap Ok (ok_back e)
 told_ok (Err f) x e = absurd (ok_err (sym e))
 
--- one entry more
-pub room_is_left : (m : StoreState) (b : Ballot) (xs : List Entry) (i : ℕ) → m ≡ filled b (take i xs) → i < length xs → length xs ≤ 64 → has_room m ≡ true
-room_is_left m b xs i e h l = lt-ltb _ 64 (omega (arith, ap (λ n. length n.entries) e, length-take-le i xs (omega arith)))
-
-pub appends : (m : StoreState) (r : Result (Unit {0}) Refusal) → has_room m ≡ true → told r ≡ append_answer m → is_ok r ≡ true
-appends m r h e = ap is_ok (told_ok r tt (e ∙ cond-true _ _ _ h))
-
-pub filled_more : (m n : StoreState) (b : Ballot) (xs : List Entry) (i : ℕ) (d : Entry) → m ≡ filled b (take i xs) → has_room m ≡ true → i < length xs
-    → n ≡ appended (get_or xs i d) m → n ≡ filled b (take (i + 1) xs)
-filled_more m n b xs i d e h l a =
-    a ∙ cond-true _ _ _ h ∙ ap (added (get_or xs i d)) e ∙ ap (filled b) (sym (take_more xs i d l))
-
-pub filled_all : (m n : StoreState) (b : Ballot) (xs ys : List Entry) (i : ℕ) → m ≡ filled b (take i xs) → length xs ≤ i → xs ≡ ys → n ≡ synced m → n ≡ loaded b ys
-filled_all m n b xs ys i e l s a = a ∙ ap synced (e ∙ ap (filled b) (take_all i xs l ∙ s))
-
 -- the entry at a number
-blank : Entry
-blank = record { term = 0; edit = record { kind = 0; row = pos 0; size = pos 0; a = pos 0; q = pos 0 } }
-
 module _ (m : StoreState) (n : ℕ) (r : Result Entry Refusal) (h : n < length m.entries) (e : told r ≡ entry_answer (n + 1) m) where
   told_entry : (d : Entry) → r ≡ Ok (get_or m.entries n d)
   told_entry d =
       let back : n + 1 - 1 ≡ n = omega arith in
       told_ok r _ (e ∙ ap (λ o. ok_or o 15) (cond-true _ _ _ (lt-ltb 0 (n + 1) (omega arith)) ∙ ap (slice_get m.entries) back ∙ slice_get-get_or m.entries n d h))
-
-  pub has_entry : is_ok r ≡ true
-  has_entry = ap is_ok (told_entry blank)
 
   pub taken_more : (x : Entry) → r ≡ Ok x → take (n + 1) m.entries ≡ take n m.entries ++ (x ∷ [])
   taken_more x p =

@@ -1,6 +1,5 @@
 -- What a buffer holds after one more record.
 use Rattle.std.proofs.Common.{◌≡◌, ℕ, ◌+◌, ◌*◌, ◌<◌, ◌≤◌, true, false, leb, List, [], ◌∷◌, ◌++◌, length, get_or, take, drop, Ok, Err, sym, refl, ap, ◌∙◌, append_assoc, append-nil, arith, length-append, length-take-le}
-use borrow.Rule.Slice.PartMut.{put_mid}
 use Rattle.std.proofs.lemmas.List.{drop-drop, take_at, drop_at, take_more, take_all}
 use Rattle.record.specs.declared.entry.Entry.{Entry}
 use Rattle.record.specs.declared.kinds.Ballot.{Ballot}
@@ -16,9 +15,6 @@ use Rattle.image.proofs.Reading.{length_entry, length_opening}
 pub entries_more : (es : List Entry) (e : Entry) → entries_in (es ++ (e ∷ [])) ≡ entries_in es ++ encode (Logged e)
 entries_more [] e = append-nil (encode (Logged e))
 entries_more (x ∷ es) e = ap (λ l. encode (Logged x) ++ l) (entries_more es e) ∙ sym (append_assoc (encode (Logged x)) (entries_in es) (encode (Logged e)))
-
-pub put_law : (b ys x : List ℕ) (at k : ℕ) → ys ≡ x → k ≡ 26 → put_mid at k b ys ≡ take at b ++ (x ++ drop (at + 26) b)
-put_law b ys x at k e h = (λ i. take at b ++ (e i ++ drop (h i) (drop at b))) ∙ ap (λ l. take at b ++ (x ++ l)) (drop-drop 26 at b)
 
 put_step : (b cur out front x : List ℕ) (at : ℕ) → cur ≡ front ++ drop at b → length front ≡ at → out ≡ take at cur ++ (x ++ drop (at + 26) cur) → out ≡ (front ++ x) ++ drop (at + 26) b
 put_step b cur out front x at h n o =
@@ -36,15 +32,13 @@ length_image b es = omega (arith, length_entries es, length_opening b (entries_i
 entries_next : (es : List Entry) (i : ℕ) (d : Entry) → i < length es → entries_in (take (i + 1) es) ≡ entries_in (take i es) ++ encode (Logged (get_or es i d))
 entries_next es i d h = ap entries_in (take_more es i d h) ∙ entries_more (take i es) (get_or es i d)
 
-pub put_again : (b cur out : List ℕ) (es : List Entry) (i at : ℕ) (d : Entry) → at ≡ 10 + 26 * i → 10 + 26 * length es ≤ length b → i < length es → cur ≡ (take 10 b ++ entries_in (take i es)) ++ drop at b → out ≡ take at cur ++ (encode (Logged (get_or es i d)) ++ drop (at + 26) cur) → out ≡ (take 10 b ++ entries_in (take (i + 1) es)) ++ drop (at + 26) b
-put_again b cur out es i at d a long h inv o =
+pub put_again : (b cur out : List ℕ) (es : List Entry) (i : ℕ) (d : Entry) → 10 + 26 * length es ≤ length b → i < length es → cur ≡ (take 10 b ++ entries_in (take i es)) ++ drop (10 + 26 * i) b → out ≡ take (10 + 26 * i) cur ++ (encode (Logged (get_or es i d)) ++ drop (10 + 26 * i + 26) cur) → out ≡ (take 10 b ++ entries_in (take (i + 1) es)) ++ drop (10 + 26 * (i + 1)) b
+put_again b cur out es i d long h inv o =
+    let at : ℕ = 10 + 26 * i in
+    let next : at + 26 ≡ 10 + 26 * (i + 1) = omega arith in
     let n : length (take 10 b ++ entries_in (take i es)) ≡ at = omega (arith, length-append (take 10 b) (entries_in (take i es)), length-take-le 10 b (omega arith), length_entries (take i es), length-take-le i es (omega arith)) in
     put_step b cur out (take 10 b ++ entries_in (take i es)) (encode (Logged (get_or es i d))) at inv n o
-    ∙ ap (λ l. l ++ drop (at + 26) b) (append_assoc (take 10 b) (entries_in (take i es)) (encode (Logged (get_or es i d))) ∙ ap (λ l. take 10 b ++ l) (sym (entries_next es i d h)))
-
-pub put_done : (b cur : List ℕ) (es : List Entry) (i at : ℕ) → at ≡ 10 + 26 * i → i ≡ length es → cur ≡ (take 10 b ++ entries_in (take i es)) ++ drop at b → cur ≡ (take 10 b ++ entries_in es) ++ drop (10 + 26 * length es) b
-put_done b cur es i at a h inv =
-    inv ∙ (λ j. (take 10 b ++ entries_in (take_all i es (omega arith) j)) ++ drop ((a ∙ ap (λ k. 10 + 26 * k) h) j) b)
+    ∙ (λ j. (append_assoc (take 10 b) (entries_in (take i es)) (encode (Logged (get_or es i d))) ∙ ap (λ l. take 10 b ++ l) (sym (entries_next es i d h))) j ++ drop (next j) b)
 
 pub write_law : (b mid ys out : List ℕ) (f : Ballot) (es : List Entry) → mid ≡ ys ++ drop 10 b → ys ≡ encode (Opening f) → out ≡ (take 10 mid ++ entries_in es) ++ drop (10 + 26 * length es) mid → out ≡ image f es ++ drop (length (image f es)) b
 unfolding encode two four

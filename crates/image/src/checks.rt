@@ -5,7 +5,7 @@ ghost use Rattle.image.specs.Rules.{ballot_in_range, term_in_range, terms_in_ran
 
 use crate::contents::Contents;
 use record::{Ballot, Entry};
-use sheet::Edit;
+use store::MAX_ENTRIES;
 
 // A vote for none or for one of three servers, and a term of at most 1,000,000.
 pub(crate) fn ballot_in_range(ballot: Ballot) -> bool
@@ -41,18 +41,10 @@ impl Contents {
         ensures ballot { result.ballot ≡ ballot }
         ensures len { result.len ≡ 0 }
     {
-        let edit = Edit {
-            kind: 0,
-            row: 0,
-            size: 0,
-            a: 0,
-            q: 0,
-        };
-        let entry = Entry { term: 0, edit };
         Contents {
             ballot,
             len: 0,
-            entries: [entry; 64],
+            entries: [Entry::default(); MAX_ENTRIES],
         }
     }
 
@@ -72,7 +64,7 @@ impl Contents {
         ensures value { result.now ≡ held self.now }
         ensures few { length result.now ≤ 64 }
     {
-        &self.entries[0..self.len]
+        &self.entries[..self.len]
     }
 
     // Whether an image of these contents can be written.

@@ -6,7 +6,7 @@ ghost use Rattle.image.specs.declared.fault.ImageFault.TheVariants.{InRecord as 
 use record::{Reader, RecordFault};
 
 // What is wrong with an image: a fault of the reader below, whole; or what is wrong with the record at `offset`.
-#[derive(Clone, Copy)]
+#[derive(Clone, Copy, Debug, PartialEq, Eq)]
 pub enum ImageFault {
     InRecord(RecordFault),
     // Kind 1 is not first, or comes again.
@@ -19,6 +19,7 @@ pub enum ImageFault {
     NotEmpty,
 }
 
+// Kept: by hand and not by thiserror's derive, since `from_gives` is what `?` tells a contract.
 impl From<RecordFault> for ImageFault {
     ghost from_gives = { λ e r. r ≡ OfRecord e };
 
@@ -28,14 +29,15 @@ impl From<RecordFault> for ImageFault {
 }
 
 impl ImageFault {
+    // Kept: a variant with fields has no number of its own, so the format's numbers stand here.
     pub fn number(self) -> u8
         ensures { result ≡ number_of self }
     {
         match self {
             ImageFault::InRecord(below) => below.number(),
-            ImageFault::Misplaced { offset: _ } => 24,
-            ImageFault::TooMany { offset: _ } => 25,
-            ImageFault::OutOfRange { offset: _ } => 26,
+            ImageFault::Misplaced { .. } => 24,
+            ImageFault::TooMany { .. } => 25,
+            ImageFault::OutOfRange { .. } => 26,
             ImageFault::NotEmpty => 28,
         }
     }
@@ -46,9 +48,9 @@ impl ImageFault {
     {
         match self {
             ImageFault::InRecord(below) => below.offset(),
-            ImageFault::Misplaced { offset } => offset,
-            ImageFault::TooMany { offset } => offset,
-            ImageFault::OutOfRange { offset } => offset,
+            ImageFault::Misplaced { offset }
+            | ImageFault::TooMany { offset }
+            | ImageFault::OutOfRange { offset } => offset,
             ImageFault::NotEmpty => 0,
         }
     }
@@ -64,21 +66,18 @@ impl ImageFault {
 }
 
 // Why no image is written.
-#[derive(Clone, Copy)]
+#[derive(Clone, Copy, Debug, PartialEq, Eq)]
 pub enum WriteFault {
     // The store's vote, its term or the term of an entry is out of range.
-    OutOfRange,
+    OutOfRange = 26,
     // The buffer is too short.
-    TooShort,
+    TooShort = 27,
 }
 
 impl WriteFault {
     pub fn number(self) -> u8
         ensures { result ≡ write_number_of self }
     {
-        match self {
-            WriteFault::OutOfRange => 26,
-            WriteFault::TooShort => 27,
-        }
+        self as u8
     }
 }

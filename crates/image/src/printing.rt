@@ -23,10 +23,9 @@ fn put_entries(buffer: &mut [u8], entries: &[Entry])
     requires { 10 + 26 * length entries.now ≤ length buffer.old }
     ensures { buffer.new ≡ (take 10 buffer.old ++ entries_in entries.now) ++ drop (10 + 26 * length entries.now) buffer.old }
 {
-    let mut at = 10;
-    for entry in entries {
-        put_entry(buffer, at, *entry);
-        at += 26;
+    // Kept: a place by its number, since a proof knows only the length after `chunks_exact_mut`.
+    for (place, entry) in entries.iter().enumerate() {
+        put_entry(buffer, 10 + 26 * place, *entry);
     }
 }
 

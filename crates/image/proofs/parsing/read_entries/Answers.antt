@@ -1,10 +1,10 @@
-use Rattle.std.proofs.Common.{◌≡◌, ◌<◌, ◌++◌, length, take, Ok, Err, sym, refl, ap, ◌∙◌, subst, inl, inr, arith, rules}
+use Rattle.std.proofs.Common.{◌≡◌, ◌<◌, ◌++◌, length, Ok, Err, sym, refl, ap, ◌∙◌, inl, inr, arith, rules}
 use Rattle.std.proofs.lemmas.List.{nil_from_length}
 use Rattle.std.proofs.lemmas.Result.{err_from_is_err_and}
 use Rattle.record.specs.declared.kinds.Record.TheVariants.{Opening, Logged}
 use Rattle.record.specs.Format.{encode, BallotFits, EntryFits}
 use Rattle.image.specs.Images.{held}
-use Rattle.image.proofs.Reading.{Behind, behind_none, behind_more, behind_all, behind_wrong, too_many, unfit, no_fault, length_entry}
+use Rattle.image.proofs.Reading.{behind_more, behind_all, behind_wrong, too_many, unfit, no_fault, length_entry}
 use Rattle.image.proofs.parsing.read_entries.Goals as goal
 use Rattle.image.proofs.parsing.read_entries.Goals.{In-Logged}
 
@@ -16,15 +16,6 @@ begins c = c.in_ok-record.ensures.answer ∙ ap (λ x. encode x ++ c.in_ok-recor
 
 some_bytes : (c : In-Logged) → 0 < length c.loop-rest.rest.now
 some_bytes c = search rules
-
-pub loop-rest-init : goal.loop-rest-init
-loop-rest-init c =
-    let n : c.new-contents.result.len ≡ 0 = c.new-contents.ensures.len in (
-      omega arith,
-      c.new-contents.ensures.ballot,
-      subst (λ k. Behind c.args.ballot.term c.args.bytes.now (held c.new-contents.result) k 0 10 c.args.bytes.now) (sym n)
-          (behind_none c.args.ballot.term c.args.bytes.now (held c.new-contents.result) (ap (λ k. take k c.new-contents.result.entries) n)),
-    )
 
 pub returns-in_err-record : goal.returns-in_err-record
 returns-in_err-record c =

@@ -1,17 +1,9 @@
-use Rattle.std.proofs.Common.{◌≡◌, true, false, Ok, Err, sym, refl, ap, ◌∙◌}
+use Rattle.std.proofs.Common.{◌≡◌, true, Ok, Err, sym, refl, ap, ◌∙◌}
 use Rattle.std.proofs.lemmas.Result.{err_from_is_err_and}
 use Rattle.std.proofs.lemmas.Bool.{both_ways}
-use Rattle.image.specs.declared.fault.ImageFault.TheVariants.{NotEmpty}
 use Rattle.image.specs.Stores.{is_empty, ReadInto}
-use Rattle.image.proofs.Loads.{empty_is, read_back, accepted}
+use Rattle.image.proofs.Loads.{read_back, accepted}
 use Rattle.image.proofs.stores.read.Goals as goal
-
-pub returns-then-not-is_empty : goal.returns-then-not-is_empty
-returns-then-not-is_empty g c =
-    let h : is_empty (g.S.Store.meaning c.args.store.now) ≡ false = sym c.if-not-is_empty.ensures in
-    let a : ReadInto (g.S.Store.meaning c.args.store.now) c.args.bytes.now (Err NotEmpty) (g.S.Store.meaning c.args.store.now)
-    = record { not_empty = λ _. (refl, refl); empty = λ t. absurd (both_ways _ h t) } in
-    record { answer = a; back = read_back _ _ _ _ a; accepted = accepted _ _ _ _ a }
 
 pub returns-in_err-contents : goal.returns-in_err-contents
 returns-in_err-contents g c =
@@ -20,9 +12,6 @@ returns-in_err-contents g c =
     let a : ReadInto (g.S.Store.meaning c.args.store.now) c.args.bytes.now c.from_residual.result (g.S.Store.meaning c.args.store.now)
     = record { not_empty = λ t. absurd (both_ways _ t h); empty = λ _. (_, c.in_err-contents.ensures, p.1 ∙ ap Err p.2, refl) } in
     record { answer = a; back = read_back _ _ _ _ a; accepted = accepted _ _ _ _ a }
-
-pub load-requires : goal.load-requires
-load-requires g c = empty_is (g.S.Store.meaning c.args.store.now) (g.met.S.Store.sound c.args.store.now) (sym c.if-not-is_empty.ensures)
 
 pub returns : goal.returns
 returns g c =

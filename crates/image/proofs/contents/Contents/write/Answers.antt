@@ -1,17 +1,12 @@
 use Rattle.std.proofs.Common.{◌≡◌, ◌+◌, ◌*◌, ◌++◌, length, drop, Ok, sym, refl, ap, ◌∙◌, arith}
 use Rattle.image.specs.Images.{held, image}
-use Rattle.image.proofs.Writes.{length_image, write_law, unfit_law, short_law, written_law}
+use Rattle.image.proofs.Writes.{length_image, write_law, short_law, written_law}
 use Rattle.image.proofs.contents.Contents.write.Goals as goal
 use Rattle.image.proofs.contents.Contents.write.Goals.{After-logged-entries}
 
 -- the length that the code reckons is the image's
 size : (c : After-logged-entries) → length (image c.args.self.now.ballot (held c.args.self.now)) ≡ 10 + 26 * length c.logged-entries.result.now
 size c = length_image c.args.self.now.ballot (held c.args.self.now) ∙ ap (λ l. 10 + 26 * length l) (sym c.logged-entries.ensures.value)
-
-pub returns-then-not-in_range : goal.returns-then-not-in_range
-returns-then-not-in_range c =
-    let p = unfit_law c.args.self.now.ballot (held c.args.self.now) c.args.buffer.now (sym c.if-not-in_range.ensures) in
-    record { answer = p.0; after = p.1 }
 
 pub returns-then-buffer-size : goal.returns-then-buffer-size
 returns-then-buffer-size c =
