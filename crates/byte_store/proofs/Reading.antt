@@ -1,13 +1,12 @@
 -- A record that is read back is the one that the bytes say.
-use Rattle.std.proofs.Common.{◌≡◌, ℕ, ◌+◌, ◌*◌, true, List, [], ◌++◌, take, drop, is_ok, Ok, Err, Result, sym, refl, ap, ◌∙◌, append-nil, arith, Bor}
+use Rattle.std.proofs.Common.{◌≡◌, ℕ, ◌+◌, ◌*◌, true, List, [], ◌++◌, take, drop, is_ok, Ok, Err, Result, sym, refl, ap, ◌∙◌, append-nil, Bor}
 use Rattle.std.proofs.lemmas.List.{take-append-drop}
 use Rattle.record.specs.declared.kinds.Record.{Record}
 use Rattle.record.specs.declared.kinds.Record.TheVariants.{Opening, Logged}
 use Rattle.record.specs.declared.fault.RecordFault.{RecordFault}
 use Rattle.record.specs.Format.{encode, answered}
-use Rattle.record.proofs.Bytes.{Bytes}
+use Rattle.record.proofs.Bytes.{Bytes, bytes_take, bytes_drop}
 use Rattle.byte_store.specs.Bytes.{opening_part, place_part, ballot_in, entry_in, Opened, PlacedAt}
-use Rattle.byte_store.specs.Decoding.{bytes_take, bytes_drop}
 
 pub opened_front : (bs : List ℕ) → Opened bs → bs ≡ encode (Opening (ballot_in (opening_part bs))) ++ drop 10 bs
 unfolding opening_part
@@ -28,7 +27,7 @@ bytes_place bs k f = bytes_take 26 (drop (10 + 26 * k) bs) (bytes_drop (10 + 26 
 -- what the answer of the reader is, by the answer with the bytes of its rest
 pub answered_ok : (r : Result (Record × Bor (List ℕ)) RecordFault) (p : Record × List ℕ) → answered r ≡ Ok p → is_ok r ≡ true
 answered_ok (Ok q) p e = refl
-answered_ok (Err f) p e = let z : ◌≡◌ {A = ℕ} 0 1 = cc in absurd (omega arith)
+answered_ok (Err f) p e = cc
 
 pub answered_record : (r : Result (Record × Bor (List ℕ)) RecordFault) (q : Record × Bor (List ℕ)) (x : Record) (rest : List ℕ) → answered r ≡ Ok (x, rest) → r ≡ Ok q → q.0 ≡ x
 answered_record r q x rest e h =

@@ -1,11 +1,9 @@
 -- What the bytes of a record say is that record; and what any bytes say has room in a record.
-use Rattle.std.specs.Prelude.{◌≡◌, ℕ, ◌+◌, ◌^◌, ◌<◌, List, take, drop, ℤ, FitsSigned}
-use Rattle.std.proofs.Common.{sym, ap, subst, ◌∙◌, inl, inr, arith, Fits, to_z, of_z}
-use Rattle.std.specs.Int.{w8, w32}
+use Rattle.std.specs.Prelude.{◌≡◌, ℕ, ◌+◌, ◌^◌, ◌<◌, List, ℤ, FitsSigned}
+use Rattle.std.proofs.Common.{ap, ◌∙◌, arith, Fits, to_z, of_z}
+use Rattle.std.specs.Int.{w32}
 use Rattle.std.proofs.Math.Facts.{Fits-of_z, sfits_to_z}
-use Rattle.std.proofs.lemmas.List.{get_or-take, get_or-drop, get_or_past, length-take}
 use Rattle.std.proofs.lemmas.Int.{to_z-of_z}
-use Rattle.std.proofs.lemmas.Bool.{cases_lt}
 use Rattle.record.specs.declared.entry.Entry.{Entry}
 use Rattle.record.specs.declared.kinds.Ballot.{Ballot}
 use Rattle.record.specs.declared.kinds.Record.TheVariants.{Opening, Logged}
@@ -34,16 +32,6 @@ entry_said e f =
         q = word_said e.edit.q f.5 i;
       };
     }
-
-pub bytes_take : (n : ℕ) (bs : List ℕ) → Bytes bs → Bytes (take n bs)
-bytes_take n bs f i =
-    elim (cases_lt i n) [
-      | inl h ↦ subst (Fits w8) (sym (get_or-take n bs i 0 h)) (f i)
-      | inr h ↦ subst (Fits w8) (sym (get_or_past (take n bs) i 0 (omega (arith, length-take n bs)))) (omega arith)
-    ]
-
-pub bytes_drop : (n : ℕ) (bs : List ℕ) → Bytes bs → Bytes (drop n bs)
-bytes_drop n bs f i = subst (Fits w8) (sym (get_or-drop n bs i 0)) (f (n + i))
 
 module _ (bs : List ℕ) (f : Bytes bs) where
   two_fits : (k : ℕ) → two_at k bs < 2 ^ 16

@@ -10,17 +10,15 @@ use super::places::{put_ballot, put_entry, read_ballot, read_entry, start_of};
 use super::{ByteStore, SIZE};
 use record::{Ballot, Entry};
 use refusal::Refusal;
-use store::{MAX_ENTRIES, Store};
-
-// The ballot of a store that nothing was written to.
-const NO_BALLOT: Ballot = Ballot { term: 0, vote: 0 };
+use std::alloc::{AllocError, Global};
+use store::{MAX_ENTRIES, OpensEmpty, Store};
 
 impl ByteStore {
     pub fn open() -> ByteStore
         ensures { kept result ≡ cleared }
     {
         let mut bytes = [0; SIZE];
-        put_ballot(&mut bytes, NO_BALLOT);
+        put_ballot(&mut bytes, Ballot::default());
         ByteStore {
             len: 0,
             durable: 0,
@@ -32,7 +30,13 @@ impl ByteStore {
     pub fn bytes(&self) -> &[u8]
         ensures { result.now ≡ image (ballot_of (kept self.now)) (kept self.now).entries }
     {
-        &self.bytes[0..start_of(self.len)]
+        &self.bytes[..start_of(self.len)]
+    }
+}
+
+impl OpensEmpty for ByteStore {
+    fn open_empty(_heap: Global) -> Result<Self, AllocError> {
+        Ok(ByteStore::open())
     }
 }
 
@@ -44,7 +48,7 @@ impl Store for ByteStore {
     fn clear(&mut self) {
         self.len = 0;
         self.durable = 0;
-        put_ballot(&mut self.bytes, NO_BALLOT);
+        put_ballot(&mut self.bytes, Ballot::default());
     }
 
     fn set(&mut self, term: u32, vote: u16) {
@@ -101,6 +105,7 @@ impl Store for ByteStore {
     }
 
     fn entry(&self, n: usize) -> Result<Entry, Refusal> {
+        // Kept: two tests, since by `checked_sub` and a guard the refusal stayed open in the proof.
         if n >= 1 && n <= self.len {
             Ok(read_entry(&self.bytes, n - 1))
         } else {
