@@ -7,12 +7,14 @@ mod compare;
 use buffered_store::BufferedStore;
 use byte_store::ByteStore;
 use command::{Command, command_in};
-use compare::{reader_name, same_answer, same_store};
+use compare::same_store;
 use image::ImageFault;
+use record::Entry;
+use sheet::Edit;
 use std::alloc::{AllocError, Global};
 use std::io;
 use std::io::{BufRead, BufReader};
-use store::{RecordStore, Store};
+use store::{OpensEmpty, RecordStore, Store};
 use text::hex_digit;
 
 // The script's own store, the image last written, and a store of each kind to read into.
@@ -27,11 +29,11 @@ struct Bench {
 
 fn open(heap: Global) -> Result<Bench, AllocError> {
     Ok(Bench {
-        store: RecordStore::open(heap)?,
+        store: OpensEmpty::open_empty(heap)?,
         written: Vec::new(heap),
-        record: RecordStore::open(heap)?,
-        bytes: ByteStore::open(),
-        buffered: BufferedStore::open(heap, RecordStore::open(heap)?)?,
+        record: OpensEmpty::open_empty(heap)?,
+        bytes: OpensEmpty::open_empty(heap)?,
+        buffered: OpensEmpty::open_empty(heap)?,
     })
 }
 
@@ -60,11 +62,15 @@ fn bytes_in(heap: Global, text: &str) -> Result<Option<Vec<u8>>, AllocError> {
 fn show<S: Store>(rt: &HostRuntime, store: &S) -> io::Result<()> {
     let (term, vote, durable, length) = (store.term(), store.vote(), store.durable(), store.len());
     println!(rt; "term {term} vote {vote} durable {durable} of {length}")?;
-    for n in 0..length {
-        let number = n.saturating_add(1);
-        if let Ok(entry) = store.entry(number) {
-            let (term, kind) = (entry.term, entry.edit.kind);
-            let (row, size, a, q) = (entry.edit.row, entry.edit.size, entry.edit.a, entry.edit.q);
+    for number in 1..=length {
+        if let Ok(Entry { term, edit }) = store.entry(number) {
+            let Edit {
+                kind,
+                row,
+                size,
+                a,
+                q,
+            } = edit;
             println!(rt; "{number}: {term} {kind} {row} {size} {a} {q}")?;
         }
     }
@@ -72,7 +78,7 @@ fn show<S: Store>(rt: &HostRuntime, store: &S) -> io::Result<()> {
 }
 
 fn show_fault(rt: &HostRuntime, fault: ImageFault) -> io::Result<()> {
-    let (number, offset, reader) = (fault.number(), fault.offset(), reader_name(fault.reader()));
+    let (number, offset, reader) = (fault.number(), fault.offset(), fault.reader());
     println!(rt; "fault {number} at {offset} by {reader}")
 }
 
@@ -86,8 +92,8 @@ fn read_all(rt: &HostRuntime, bench: &mut Bench, bytes: &[u8]) -> io::Result<()>
     let first = read_fresh(&mut bench.record, bytes);
     let second = read_fresh(&mut bench.bytes, bytes);
     let third = read_fresh(&mut bench.buffered, bytes);
-    let told = same_answer(first, second) && same_answer(first, third);
-    if !told
+    if first != second
+        || first != third
         || !same_store(&bench.record, &bench.bytes)
         || !same_store(&bench.record, &bench.buffered)
     {
@@ -124,12 +130,7 @@ fn show_image(rt: &HostRuntime, image: &[u8]) -> io::Result<()> {
 }
 
 fn untouched(bytes: &[u8]) -> bool {
-    for byte in bytes {
-        if *byte != 255 {
-            return false;
-        }
-    }
-    true
+    bytes.iter().all(|byte| *byte == 255)
 }
 
 fn write(rt: &HostRuntime, bench: &mut Bench, room: u32) -> io::Result<()> {
