@@ -32,7 +32,3 @@ module _ {S M : Type 0} {s : StoreGhosts S} {m : MachineGhosts M} (k : Cluster S
 pub there : (b : Bool) (l o : Message) → Some l ≡ cond b (Some o) None → (b ≡ true) × (l ≡ o)
 there true l o h = (refl, cc)
 there false l o h = (cc, cc)
-
-pub missing : (b : Bool) (o : Message) → None ≡ cond b (Some o) None → b ≡ false
-missing true o h = cc
-missing false o h = refl
