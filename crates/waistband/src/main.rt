@@ -57,9 +57,8 @@ fn show_cell(rt: &HostRuntime, cell: u16) -> io::Result<()> {
 
 // The first row less the second, at each size.
 fn seam<M: StateMachine>(machine: &M, first: i32, second: i32) -> Result<[i32; 12], Refusal> {
-    let mut measures = SIZES;
-    for measure in measures.iter_mut() {
-        let size = *measure;
+    let mut measures = [0; 12];
+    for (measure, size) in measures.iter_mut().zip(SIZES) {
         *measure = difference(machine.read(first, size)?, machine.read(second, size)?);
     }
     Ok(measures)
