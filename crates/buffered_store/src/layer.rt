@@ -9,6 +9,7 @@ mod handing;
 // At most this many entries are held back.
 pub const MAX_HELD: usize = 8;
 
+// Kept: that both fit is no field, since it would ask `S: Store` of whoever names the type.
 #[derive(Drop)]
 pub struct BufferedStore<S> {
     below: S,

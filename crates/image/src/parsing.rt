@@ -29,6 +29,7 @@ fn read_entries(ballot: Ballot, bytes: &[u8]) -> Result<Contents, ImageFault>
     let mut low = 0;
     let mut offset = 10;
     let mut rest = bytes;
+    // Kept: places counted by hand, since read_record has to see all the bytes that follow and not 26 of them.
     while !rest.is_empty() {
         let (record, after) = read_record(rest, offset)?;
         let Record::Logged(entry) = record else {

@@ -5,6 +5,7 @@ use record::Entry;
 
 mod calls;
 
+// Kept: a type for what is reserved would repeat seven contracts of Vec, to spare two lines here and in a layer.
 #[derive(Drop)]
 pub struct RecordStore {
     term: u32,

@@ -15,6 +15,7 @@ pub(crate) fn start_of(place: usize) -> usize
     OPENING_SIZE + PLACE_SIZE * place
 }
 
+// Kept: beside put_entry, since each names its own record and place, and the rest is one line.
 pub(crate) fn put_ballot(bytes: &mut [u8; SIZE], ballot: Ballot)
     ensures { bytes.new ≡ encode (Opening ballot) ++ drop 10 bytes.old }
 {
