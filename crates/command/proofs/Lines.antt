@@ -4,8 +4,8 @@ use Rattle.std.proofs.lemmas.Str.{IsUtf8-from_ascii}
 use Rattle.sheet.specs.declared.types.Edit.{Edit}
 use Rattle.command.specs.declared.types.Command.{Command}
 use Rattle.command.specs.declared.types.Command.TheVariants.{Campaign, Deliver, Lose, Propose, Firm, Send, Apply, Outage, Restart, Standing, Look}
-use Rattle.text.specs.Words.{Finds, Visible, NoSpace, Both, Number, Kind, Word, EditIn}
-use Rattle.text.specs.Numerals.{number_visible, kind_visible, word_visible}
+use Rattle.text.specs.Words.{Finds, Visible, NoSpace, Number, Kind, Word, EditIn}
+use Rattle.text.specs.Numerals.{number_visible, word_visible}
 use Rattle.text.proofs.Splits.{visible_no_space, same_cut}
 use Rattle.command.specs.Grammar.{Two, Three, Says, Reads}
 use Rattle.command.proofs.Characters.{all_visible, visible_from, joined_ascii, both_ascii, written_ascii}

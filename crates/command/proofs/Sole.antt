@@ -1,5 +1,5 @@
 -- A line has at most one reading.
-use Rattle.std.proofs.Common.{◌≡◌, ℕ, cond, eqb, List, get_or, ℤ, Some, None, Option, MatchOption, sym, refl, ap, ◌∙◌, subst}
+use Rattle.std.proofs.Common.{◌≡◌, ℕ, cond, eqb, List, get_or, Some, None, Option, MatchOption, sym, refl, ap, ◌∙◌, subst}
 use Rattle.std.specs.Option.{IsSomeAnd}
 use Rattle.sheet.specs.declared.types.Edit.{Edit}
 use Rattle.command.specs.declared.types.Command.{Command}

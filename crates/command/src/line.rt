@@ -54,6 +54,7 @@ impl Line {
 }
 
 // Puts the digits of a number.
+// Kept: formatting into a text may fail for memory, and took 8.7 times plain Rust where the bar is 1.5 (docs/PERFORMANCE.md).
 fn put_number(out: &mut Vec<u8>, n: u32)
     requires { Room 10 out.old }
     ensures { Put 10 out.old (decimal n) out.new }

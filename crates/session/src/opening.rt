@@ -20,7 +20,9 @@ pub fn parts<S: OpensEmpty + Drop, M: Opens + Drop>(heap: Global) -> Result<(S, 
 }
 
 // A cluster of three empty stores and three machines at their opening state.
-pub fn open<S: OpensEmpty + Drop, M: Opens + Drop>(heap: Global) -> Result<Cluster<S, M>, AllocError>
+pub fn open<S: OpensEmpty + Drop, M: Opens + Drop>(
+    heap: Global,
+) -> Result<Cluster<S, M>, AllocError>
     ensures { IfOk result (λ c. cluster_of c ≡ opening (kind_of M.StateMachine)) }
 {
     Cluster::open(heap, parts(heap)?, parts(heap)?, parts(heap)?)

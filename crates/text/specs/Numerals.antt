@@ -1,6 +1,6 @@
 -- The laws of the kinds of number that a text writes.
-use Rattle.std.proofs.Common.{◌≡◌, ℕ, zero, suc, ◌<◌, ◌^◌, Bool, true, false, cond, eqb, List, [], ◌∷◌, length, get_or, drop, ℤ, Ok, Err, Result, MatchResult, sym, ◌∙◌, subst, arith, true-eqb, refl, w32}
-use Rattle.std.specs.Str.Parse.{AllDigits, ParsesUnsigned, ParsesSigned, without_leading_plus, digits_value}
+use Rattle.std.proofs.Common.{◌≡◌, ℕ, zero, suc, Bool, true, false, cond, eqb, List, [], ◌∷◌, get_or, drop, ℤ, Ok, Err, Result, MatchResult, sym, ◌∙◌, subst, arith, true-eqb, refl, w32}
+use Rattle.std.specs.Str.Parse.{AllDigits, ParsesUnsigned, ParsesSigned}
 use Rattle.std.specs.Int.{IsInRange}
 use Rattle.std.proofs.lemmas.Str.Parse.{digit_at, without_leading_plus_none}
 use Rattle.text.specs.Words.{Visible, Number, Kind, Word}

@@ -4,7 +4,7 @@ use Rattle.text.specs.Numerals.{number_visible}
 use Rattle.text.proofs.Splits.{after}
 use Rattle.command.specs.declared.types.Command.TheVariants.{Deliver, Propose, Send, Outage, Standing, Look}
 use Rattle.command.specs.Grammar.{Says}
-use Rattle.command.proofs.Sole.{Name, deliver, propose, send, outage, standing, look, named, found, mapped, mapped_two, mapped_three}
+use Rattle.command.proofs.Sole.{deliver, propose, send, outage, standing, look, named, found, mapped, mapped_two, mapped_three}
 use Rattle.command.proofs.read.named.Goals as goal
 
 pub returns-in_err-server-in-propose : goal.returns-in_err-server-in-propose
