@@ -6,7 +6,7 @@ use Rattle.buffered_store.specs.declared.layer.BufferedStore.{BufferedStore}
 
 module _ {S : Type 0} (meaning : S → StoreState) where
   abbrev pub layered : BufferedStore S → Layer
-  layered s = record { below = meaning s.below; own = vec_items s.own }
+  layered s = record { below = meaning s.below; own = vec_items s.own.items }
 
   abbrev pub buffered : BufferedStore S → StoreState
   buffered s = whole (layered s)

@@ -1,6 +1,5 @@
 // The layer: a store, and the entries that it has not been handed yet, in memory that is reserved at opening.
-ghost use Rattle.std.specs.Prelude.{◌≤◌, length, vec_capacity};
-
+use bounded::Bounded;
 use record::Entry;
 
 mod calls;
@@ -13,7 +12,5 @@ pub const MAX_HELD: usize = 8;
 #[derive(Drop)]
 pub struct BufferedStore<S> {
     below: S,
-    own: Vec<Entry>,
-    ghost few: { length own.items ≤ 8 },
-    ghost reserved: { 8 ≤ vec_capacity own },
+    own: Bounded<Entry, MAX_HELD>,
 }

@@ -38,7 +38,7 @@ module _ {S M : Type 0} {s : StoreGhosts S} {m : MachineGhosts M} (k : Cluster S
     (is : i ≡ place j) (read : x ≡ get_or (vec_items k.servers) i x) (n : ℕ) (found : Found n (Ok j))
     (y : Server S M) (turned : Turned s m x (campaigns j) y) where
   abbrev p : List Message
-  p = vec_items k.network.messages
+  p = vec_items k.network.messages.items
 
   abbrev w : Core
   w = (base k).core

@@ -44,7 +44,7 @@ change_same w j s e =
 
 module _ {S M : Type 0} {s : StoreGhosts S} {m : MachineGhosts M} (k : Cluster S M s m) (n : ℕ) (keep : Bool) where
   abbrev p : List Message
-  p = vec_items k.network.messages
+  p = vec_items k.network.messages.items
 
   abbrev w : Core
   w = (base k).core

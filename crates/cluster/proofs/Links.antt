@@ -79,7 +79,7 @@ module _ {S M : Type 0} {s : StoreGhosts S} {m : MachineGhosts M} (k : Cluster S
 
   -- nothing changes
   pub untouched : (c : Call) (a : Answer) → a ≡ answer K base c → base.core ≡ core_after base.core c → Allowed base.core c → Called K c a base base
-  untouched c a ha hw al = posts c a (vec_items k.network.messages) ha hw al
+  untouched c a ha hw al = posts c a (vec_items k.network.messages.items) ha hw al
 
   -- the number that a call names finds no server
   abbrev pub FoundIn : Call → Result ServerId Refusal → Type 0
@@ -162,10 +162,10 @@ module _ {S M : Type 0} {s : StoreGhosts S} {m : MachineGhosts M} (k : Cluster S
         → answer K base c ≡ numbered n (λ r. says (base.core.server r)) (refused 1)
         → core_after base.core c ≡ numbered n (λ r. change base.core r (f r (base.core.server r))) base.core
         → Allowed base.core c
-        → Called K c a base (with_parts (set xs i y) (vec_items k.network.messages))
+        → Called K c a base (with_parts (set xs i y) (vec_items k.network.messages.items))
     on_one n found c a says f y ha turned ans aft al =
         let w : Core = base.core in
-        seated c a y (vec_items k.network.messages)
+        seated c a y (vec_items k.network.messages.items)
         (ha ∙ (ap says (sym seen) ∙ (sym (numbered_some n j (λ r. says (w.server r)) (refused 1) found) ∙ sym ans)))
         (ap (change w j) (turned.goes ∙ ap (f j) (sym seen)) ∙ (sym (numbered_some n j (λ r. change w r (f r (w.server r))) w found) ∙ sym aft)) turned.moves al
 

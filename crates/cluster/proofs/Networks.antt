@@ -16,7 +16,7 @@ lost_or b = cond b (Ok tt) (Err 5)
 
 module _ {S M : Type 0} {s : StoreGhosts S} {m : MachineGhosts M} (k : Cluster S M s m) (n : ℕ) where
   abbrev p : List Message
-  p = vec_items k.network.messages
+  p = vec_items k.network.messages.items
 
   abbrev w : Core
   w = (base k).core

@@ -37,7 +37,7 @@ passed_by true true false v u n h = (refl, cc, refl)
 
 module _ {S M : Type 0} {s : StoreGhosts S} {m : MachineGhosts M} (k : Cluster S M s m) (n to : ℕ) (j : ServerId) (found : Found n (Ok j)) where
   abbrev p : List Message
-  p = vec_items k.network.messages
+  p = vec_items k.network.messages.items
 
   abbrev w : Core
   w = (base k).core

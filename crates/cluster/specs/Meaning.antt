@@ -21,4 +21,4 @@ model K view states xs p = record {
 }
 
 abbrev pub cluster_of : {S M : Type 0} {s : StoreGhosts S} {m : MachineGhosts M} → Cluster S M s m → Model m.State
-cluster_of {s = s} {m = m} c = model (kind_of m) (state_of s) (states_of m) (vec_items c.servers) (vec_items c.network.messages)
+cluster_of {s = s} {m = m} c = model (kind_of m) (state_of s) (states_of m) (vec_items c.servers) (vec_items c.network.messages.items)

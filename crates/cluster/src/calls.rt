@@ -10,6 +10,7 @@ ghost use Rattle.cluster.specs.Meaning.{cluster_of};
 ghost use Rattle.cluster.specs.Called.{Calls};
 
 use crate::state::{Cluster, Network};
+use bounded::Bounded;
 use machine::StateMachine;
 use node::ids::place_of;
 use protocol::ServerId;
@@ -33,7 +34,7 @@ impl<S: Store + Drop, M: StateMachine + Drop> Cluster<S, M> {
         servers.push_reserved(Server::open(first.0, first.1));
         servers.push_reserved(Server::open(second.0, second.1));
         servers.push_reserved(Server::open(third.0, third.1));
-        let messages = Vec::with_capacity(heap, 24)?;
+        let messages = Bounded::open(heap)?;
         Ok(Cluster {
             servers,
             network: Network { messages },

@@ -8,21 +8,21 @@ use protocol::Message;
 
 impl Network {
     pub(crate) fn message_at(&self, position: u32) -> Option<Message>
-        ensures { result ≡ (if has_message position self.now.messages.items then Some (message_at position self.now.messages.items) else None) }
+        ensures { result ≡ (if has_message position self.now.messages.items.items then Some (message_at position self.now.messages.items.items) else None) }
     {
         let before = position.checked_sub(1)?;
-        self.messages.get(before as usize).copied()
+        self.messages.items().get(before as usize).copied()
     }
 
     pub(crate) fn has(&self, position: u32) -> bool
-        ensures { result ≡ has_message position self.now.messages.items }
+        ensures { result ≡ has_message position self.now.messages.items.items }
     {
         self.message_at(position).is_some()
     }
 
     // Takes out the message at a position, unless it is kept or there is none.
     pub(crate) fn take_out(&mut self, position: u32, keep: bool)
-        ensures { self.new.messages.items ≡ left keep position self.old.messages.items }
+        ensures { self.new.messages.items.items ≡ left keep position self.old.messages.items.items }
     {
         if !keep && self.has(position) {
             let _ = self.messages.remove(position as usize - 1);
@@ -31,21 +31,19 @@ impl Network {
 
     // Posts a message where there is room, and tells how many were lost.
     pub(crate) fn post(&mut self, message: Message) -> u32
-        ensures messages { self.new.messages.items ≡ joined self.old.messages.items message }
-        ensures lost { result ≡ lost_of self.old.messages.items }
+        ensures messages { self.new.messages.items.items ≡ joined self.old.messages.items.items message }
+        ensures lost { result ≡ lost_of self.old.messages.items.items }
         ensures few { result ≤ 1 }
     {
-        if self.messages.len() < 24 {
-            self.messages.push_reserved(message);
-            0
-        } else {
-            1
+        match self.messages.push(message) {
+            Ok(()) => 0,
+            Err(_) => 1,
         }
     }
 
     pub(crate) fn post_some(&mut self, message: Option<Message>) -> u32
-        ensures messages { self.new.messages.items ≡ joined_some self.old.messages.items message }
-        ensures lost { result ≡ lost_some self.old.messages.items message }
+        ensures messages { self.new.messages.items.items ≡ joined_some self.old.messages.items.items message }
+        ensures lost { result ≡ lost_some self.old.messages.items.items message }
     {
         // Kept: after `map_or` the proof knows nothing of what its closure changed in the network.
         match message {

@@ -1,7 +1,6 @@
 // What keeps the states of a sheet while edits may yet be taken back.
 #![tactic(auto)]
 
-mod open_edits;
 pub mod rehearsal;
 pub mod replay;
 pub mod state_machine;

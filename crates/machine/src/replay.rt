@@ -1,12 +1,12 @@
 // The machine that keeps the oldest sheet and the open edits.
-use crate::open_edits::OpenEdits;
+use bounded::Bounded;
 use sheet::{Edit, Sheet};
 
 pub mod moves;
 
-// The open edits stand oldest first.
+// The open edits stand oldest first, sixteen at most.
 #[derive(Drop)]
 pub struct ReplayMachine {
     oldest: Sheet,
-    edits: OpenEdits<Edit>,
+    edits: Bounded<Edit, 16>,
 }

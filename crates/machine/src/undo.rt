@@ -1,5 +1,5 @@
 // The machine that keeps the newest sheet and, for each open edit, the row that it replaced.
-use crate::open_edits::OpenEdits;
+use bounded::Bounded;
 use sheet::{Row, Sheet};
 
 pub mod moves;
@@ -11,9 +11,9 @@ pub struct Replaced {
     row: Option<Row>,
 }
 
-// The replaced rows stand oldest first.
+// The replaced rows stand oldest first, sixteen at most.
 #[derive(Drop)]
 pub struct UndoMachine {
     newest: Sheet,
-    replaced: OpenEdits<Replaced>,
+    replaced: Bounded<Replaced, 16>,
 }

@@ -6,7 +6,8 @@ ghost use Rattle.buffered_store.specs.Layers.{Fits, Joined, CrashedBelow, over, 
 ghost use Rattle.buffered_store.specs.Buffered.{layered, buffered};
 ghost use Rattle.buffered_store.specs.Extending.{extended_sound};
 
-use super::{BufferedStore, MAX_HELD};
+use super::BufferedStore;
+use bounded::Bounded;
 use record::Entry;
 use refusal::Refusal;
 use std::alloc::{AllocError, AllocFailed, Global};
@@ -20,7 +21,7 @@ impl<S: Store> BufferedStore<S> {
         ensures joined { IfOk result (λ s. Joined (layered S.Store.meaning s)) }
         ensures refused { IfErr result (λ back. back.value ≡ below) }
     {
-        match Vec::with_capacity(heap, MAX_HELD) {
+        match Bounded::open(heap) {
             Ok(own) => Ok(BufferedStore { below, own }),
             Err(_) => Err(AllocFailed { value: below }),
         }
@@ -39,7 +40,7 @@ impl<S: Store> BufferedStore<S> {
         ensures few { length result.now ≤ 8 }
         ensures joined { Fits (layered S.Store.meaning self.now) → Joined (layered S.Store.meaning self.now) }
     {
-        self.own.as_slice()
+        self.own.items()
     }
 }
 
@@ -52,7 +53,7 @@ impl<S: OpensEmpty + Drop> OpensEmpty for BufferedStore<S> {
 impl<S: Store> Store for BufferedStore<S> {
     ghost meaning = { buffered S.Store.meaning };
 
-    ghost sound = { λ s. extended_sound (S.Store.meaning s.below) s.own.items (S.Store.sound s.below) };
+    ghost sound = { λ s. extended_sound (S.Store.meaning s.below) s.own.items.items (S.Store.sound s.below) };
 
     fn clear(&mut self)
         ensures after { buffered S.Store.meaning self.new ≡ cleared }
@@ -81,8 +82,7 @@ impl<S: Store> Store for BufferedStore<S> {
             return Err(Refusal::OutOfBounds);
         }
         self.make_room();
-        self.own.push_reserved(entry);
-        Ok(())
+        self.own.push(entry)
     }
 
     fn truncate(&mut self, n: usize) -> Result<(), Refusal>
@@ -145,6 +145,6 @@ impl<S: Store> Store for BufferedStore<S> {
         if n > self.len() {
             return Err(Refusal::OutOfBounds);
         }
-        Ok(self.own[n - below - 1])
+        Ok(self.own.items()[n - below - 1])
     }
 }

@@ -21,7 +21,7 @@ impl<S: Store> BufferedStore<S> {
     pub(crate) fn hand_down(&mut self)
         ensures { layered S.Store.meaning self.new ≡ over (whole (layered S.Store.meaning self.old)) }
     {
-        append_all(&mut self.below, &self.own);
+        append_all(&mut self.below, self.own.items());
         self.own.clear();
     }
 

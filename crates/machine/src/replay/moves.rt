@@ -9,8 +9,8 @@ ghost use Rattle.machine.specs.Counts;
 ghost use Rattle.machine.specs.StepsOn.{on_count};
 
 use super::ReplayMachine;
-use crate::open_edits::OpenEdits;
 use crate::state_machine::{Opens, StateMachine};
+use bounded::Bounded;
 use refusal::Refusal;
 use sheet::{Edit, Sheet};
 use std::alloc::{AllocError, Global};
@@ -54,7 +54,7 @@ impl StateMachine for ReplayMachine {
     }
 
     fn settle(&mut self) -> Result<(), Refusal> {
-        let edit = self.edits.pop_oldest()?;
+        let edit = self.edits.pop_first()?;
         self.oldest.change(edit);
         Ok(())
     }
@@ -72,7 +72,7 @@ impl StateMachine for ReplayMachine {
 #[tactic(auto, unfolding(crate::specs::Sheets::replay_states))]
 impl Opens for ReplayMachine {
     fn open(heap: Global) -> Result<Self, AllocError> {
-        let edits = OpenEdits::open(heap)?;
+        let edits = Bounded::open(heap)?;
         Ok(ReplayMachine {
             oldest: Sheet::blank(),
             edits,

@@ -8,8 +8,8 @@ ghost use Rattle.machine.specs.Counts;
 ghost use Rattle.machine.specs.StepsBack.{back_count};
 
 use super::{Replaced, UndoMachine};
-use crate::open_edits::OpenEdits;
 use crate::state_machine::{Opens, StateMachine};
+use bounded::Bounded;
 use refusal::Refusal;
 use sheet::{Edit, Sheet};
 use std::alloc::{AllocError, Global};
@@ -61,7 +61,7 @@ impl StateMachine for UndoMachine {
     }
 
     fn settle(&mut self) -> Result<(), Refusal> {
-        let _ = self.replaced.pop_oldest()?;
+        let _ = self.replaced.pop_first()?;
         Ok(())
     }
 
@@ -78,7 +78,7 @@ impl StateMachine for UndoMachine {
 #[tactic(auto, unfolding(crate::specs::Sheets::undo_states))]
 impl Opens for UndoMachine {
     fn open(heap: Global) -> Result<Self, AllocError> {
-        let replaced = OpenEdits::open(heap)?;
+        let replaced = Bounded::open(heap)?;
         Ok(UndoMachine {
             newest: Sheet::blank(),
             replaced,

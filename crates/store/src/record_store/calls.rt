@@ -5,7 +5,8 @@ ghost use Rattle.store.specs.Records.{recorded};
 ghost use Rattle.std.proofs.Common.{rules, arith};
 
 use super::RecordStore;
-use crate::{MAX_ENTRIES, OpensEmpty, Store};
+use crate::{OpensEmpty, Store};
+use bounded::Bounded;
 use record::Entry;
 use refusal::Refusal;
 use std::alloc::{AllocError, Global};
@@ -14,7 +15,7 @@ impl RecordStore {
     pub fn open(heap: Global) -> Result<Self, AllocError>
         ensures { IfOk result (λ s. recorded s ≡ cleared) }
     {
-        let entries = Vec::with_capacity(heap, MAX_ENTRIES)?;
+        let entries = Bounded::open(heap)?;
         Ok(RecordStore {
             term: 0,
             vote: 0,
@@ -48,11 +49,7 @@ impl Store for RecordStore {
     }
 
     fn append(&mut self, entry: Entry) -> Result<(), Refusal> {
-        if self.entries.len() >= MAX_ENTRIES {
-            return Err(Refusal::OutOfBounds);
-        }
-        self.entries.push_reserved(entry);
-        Ok(())
+        self.entries.push(entry)
     }
 
     fn truncate(&mut self, n: usize) -> Result<(), Refusal> {
@@ -97,7 +94,7 @@ impl Store for RecordStore {
 
     fn entry(&self, n: usize) -> Result<Entry, Refusal> {
         n.checked_sub(1)
-            .and_then(|place| self.entries.get(place).copied())
+            .and_then(|place| self.entries.items().get(place).copied())
             .ok_or(Refusal::OutOfBounds)
     }
 }

@@ -9,6 +9,6 @@ pub returns-clause-after : goal.returns-clause-after
 unfolding undo_states
 returns-clause-after c =
     let s = cells_of c.args.self.now.newest in
-    let first = c.in_ok-pop_oldest.field-0 in
-    let rs = c.pop_oldest.new.self.items.items in
-    rw c.in_ok-pop_oldest.ensures (back_settled s first rs ∙ settled_is _ (suc (length rs)) (back_count s (first ∷ rs)) (omega arith))
+    let first = c.in_ok-pop_first.field-0 in
+    let rs = c.pop_first.new.self.items.items in
+    rw c.in_ok-pop_first.ensures (back_settled s first rs ∙ settled_is _ (suc (length rs)) (back_count s (first ∷ rs)) (omega arith))
