@@ -14,6 +14,7 @@ const PLACE_SIZE: usize = 26;
 
 pub const SIZE: usize = OPENING_SIZE + PLACE_SIZE * MAX_ENTRIES;
 
+// Kept: an array and its counts, since the store is its image and opens with no memory, so that opening cannot fail.
 #[derive(Drop)]
 pub struct ByteStore {
     len: usize,

@@ -13,6 +13,7 @@ use std::alloc::{AllocError, Global};
 const LINE_MAX: usize = 256;
 
 // A line of output, in memory that is reserved at opening.
+// Kept: a Vec and its room, since a list that refuses a byte too many would have each of the functions below tell why none is refused.
 #[derive(Drop)]
 pub struct Line {
     bytes: Vec<u8>,

@@ -1,18 +1,10 @@
 // A line as a command.
 ghost use Rattle.std.specs.Prelude.{◌≡◌};
 ghost use Rattle.text.specs.Words.{Finds};
-ghost use Rattle.command.specs.Grammar.{FindsOnly, Two, Three, Says, Reads};
+ghost use Rattle.command.specs.Grammar.{FindsOnly, Three, Says, Reads};
 
 use crate::types::Command;
-use text::{cut, first, number, plain_edit_in};
-
-// Two numbers.
-fn two(text: &str) -> Option<(u32, u32)>
-    ensures { Finds result (λ x. Two x.0 x.1 text.now) }
-{
-    let (a, rest) = first(text)?;
-    Some((a, number(rest)?))
-}
+use text::{cut, first, number, plain_edit_in, two};
 
 // Three numbers.
 fn three(text: &str) -> Option<(u32, u32, u32)>

@@ -24,6 +24,7 @@ fn durable_contents<S: Store>(store: &S) -> Contents
         vote: store.vote(),
     };
     let mut contents = Contents::new(ballot);
+    // Kept: a range of numbers, since a store tells its entries one by one, each by its number.
     for n in 0..store.durable() {
         contents.push(store.entry(n + 1).unwrap());
     }

@@ -1,7 +1,7 @@
 // The commands of a script.
 use record::Entry;
 use sheet::Edit;
-use text::{first, number, plain_edit_in};
+use text::{first, number, plain_edit_in, two};
 
 // The longest buffer that an image is written into.
 const MAX_ROOM: u32 = 4096;
@@ -22,11 +22,6 @@ pub enum Command<'a> {
     Load(&'a str),
 }
 
-fn ballot_in(text: &str) -> Option<(u32, u16)> {
-    let (term, vote) = first(text)?;
-    Some((term, number(vote)?))
-}
-
 fn entry_in(text: &str) -> Option<Entry> {
     let (term, edit) = first(text)?;
     Some(Entry {
@@ -36,14 +31,14 @@ fn entry_in(text: &str) -> Option<Entry> {
 }
 
 fn byte_in(text: &str) -> Option<(u32, u8)> {
-    let (at, value) = first(text)?;
-    Some((at, u8::try_from(number::<u32>(value)?).ok()?))
+    let (at, value) = two::<u32, u32>(text)?;
+    Some((at, u8::try_from(value).ok()?))
 }
 
 fn on_store<'a>(word: &str, rest: &str) -> Option<Command<'a>> {
     match word {
         "set" => {
-            let (term, vote) = ballot_in(rest)?;
+            let (term, vote) = two(rest)?;
             Some(Command::Set(term, vote))
         }
         "append" => Some(Command::Append(entry_in(rest)?)),

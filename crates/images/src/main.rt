@@ -40,23 +40,16 @@ fn open(heap: Global) -> Result<Bench, AllocError> {
 // The bytes that the pairs of digits write; nothing where that is no such text.
 fn bytes_in(heap: Global, text: &str) -> Result<Option<Vec<u8>>, AllocError> {
     let mut bytes = Vec::new(heap);
-    let mut high = None;
-    for digit in text.bytes() {
-        let Some(value) = hex_digit(digit) else {
+    for pair in text.as_bytes().chunks(2) {
+        let [high, low] = pair else {
             return Ok(None);
         };
-        match high {
-            None => high = Some(value),
-            Some(first) => {
-                bytes.push((first & 15) * 16 + (value & 15))?;
-                high = None;
-            }
-        }
+        let (Some(high), Some(low)) = (hex_digit(*high), hex_digit(*low)) else {
+            return Ok(None);
+        };
+        bytes.push((high & 15) * 16 + (low & 15))?;
     }
-    match high {
-        None => Ok(Some(bytes)),
-        Some(_) => Ok(None),
-    }
+    Ok(Some(bytes))
 }
 
 fn show<S: Store>(rt: &HostRuntime, store: &S) -> io::Result<()> {

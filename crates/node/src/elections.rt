@@ -113,23 +113,17 @@ impl<S: Store + Drop> Node<S> {
     }
 
     // Answers a vote request; a yes is recorded as the vote.
-    pub fn hear_vote_request(
-        &mut self,
-        from: ServerId,
-        to: ServerId,
-        term: u32,
-        pair: (u32, u32),
-    ) -> Message
-        ensures after { server_of S.Store self.new ≡ hears_vote_request (server_of S.Store self.old) from term pair }
-        ensures says { result ≡ vote_reply (server_of S.Store self.old) from to term pair }
+    pub fn hear_vote_request(&mut self, message: Message, pair: (u32, u32)) -> Message
+        ensures after { Goes S.Store self.old (λ s. hears_vote_request s message.from message.term pair) self.new }
+        ensures says { result ≡ vote_reply (server_of S.Store self.old) message.from message.to message.term pair }
     {
-        let yes = self.grants(from, term, pair);
+        let yes = self.grants(message.from, message.term, pair);
         if yes {
-            self.vote_for(from);
+            self.vote_for(message.from);
         }
         Message {
-            from: to,
-            to: from,
+            from: message.to,
+            to: message.from,
             term: self.store.term(),
             body: Body::VoteReply(yes),
         }
@@ -159,11 +153,12 @@ impl<S: Store + Drop> Node<S> {
         }
     }
 
-    pub fn hear_vote_reply(&mut self, from: ServerId, term: u32, ok: bool)
-        ensures { server_of S.Store self.new ≡ hears_vote_reply (server_of S.Store self.old) from term ok }
+    // Counts a yes of its own term, as a candidate.
+    pub fn hear_vote_reply(&mut self, message: Message, ok: bool)
+        ensures { Goes S.Store self.old (λ s. hears_vote_reply s message.from message.term ok) self.new }
     {
-        if ok && (term == self.store.term() && self.role == Role::Candidate) {
-            self.tally(from);
+        if ok && (message.term == self.store.term() && self.role == Role::Candidate) {
+            self.tally(message.from);
         }
     }
 }

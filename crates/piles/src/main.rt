@@ -76,6 +76,7 @@ fn main(rt: HostRuntime) -> io::Result<()> {
     let commands = read_commands(&rt)?;
     let piles = run_all(heap, commands.as_slice())?;
     let mut out = BufWriter::new(heap, rt.stdout())?;
+    // Kept: a place by its number, since six lists are read side by side.
     for place in 0..=commands.len() {
         let text = joined(heap, &piles, place)?;
         out.write_all(text.as_bytes())?;

@@ -5,6 +5,7 @@ ghost use Rattle.protocol.specs.Shown.{role_shown, standing_shown, state_shown, 
 use crate::{Role, Standing, Status};
 use std::fmt;
 
+// Kept: a letter and a word as texts beside Display, since a line in reserved memory takes them with no formatting, which can fail.
 impl Role {
     // The letter of the role.
     pub fn letter(self) -> &'static str

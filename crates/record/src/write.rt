@@ -6,6 +6,7 @@ ghost use Rattle.record.specs.Format.{encode};
 use crate::entry::Entry;
 use crate::kinds::Ballot;
 
+// Kept: by a name for each record, since `From` into two sizes of array would show at a call neither the record nor its size.
 pub fn bytes_of_ballot(ballot: Ballot) -> [u8; 10]
     ensures { result ≡ encode (Opening ballot) }
 {

@@ -114,6 +114,7 @@ impl<S: Store + Drop, M: StateMachine + Drop> Server<S, M> {
         self.turn(steps::restart)
     }
 
+    // Kept: number and term one by one, as the rules' call has them, and as whoever kept them of a spent ticket has them.
     pub fn standing(&self, number: u32, term: u32) -> Result<Standing, Refusal>
         ensures { told result ≡ standing_answer (state_of S.Store self.now) number term }
     {

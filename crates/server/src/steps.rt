@@ -25,14 +25,9 @@ pub fn hear<S: Store + Drop>(node: &mut Node<S>, message: Message) -> Option<Mes
 {
     node.catch_up(message.term);
     match message.body {
-        Body::VoteRequest(pair) => Some(node.hear_vote_request(
-            message.from,
-            message.to,
-            message.term,
-            pair,
-        )),
+        Body::VoteRequest(pair) => Some(node.hear_vote_request(message, pair)),
         Body::VoteReply(ok) => {
-            node.hear_vote_reply(message.from, message.term, ok);
+            node.hear_vote_reply(message, ok);
             None
         }
         Body::AppendRequest(append) => hear_append(node, message, append),

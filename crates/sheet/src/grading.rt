@@ -70,6 +70,7 @@ impl Grading {
     }
 }
 
+// Kept: the words size, a and q one by one, as an edit has them, since setting names only two of them.
 impl Row {
     // The row with the cell at `size` set to `a`; nothing where the edit is set aside.
     pub fn set(self, size: i32, a: i32) -> Option<Row>

@@ -1,4 +1,5 @@
 // The rounds of the benchmark, for callers in C and the like.
+// Kept: two exports of one generic function, since C calls each by its name.
 #![tactic(auto)]
 
 use machine::{ReplayMachine, UndoMachine};

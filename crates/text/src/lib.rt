@@ -8,7 +8,7 @@ ghost use Rattle.std.specs.Prelude.{◌≡◌, pos, ◌-ℤ◌, IfOk, string_byt
 ghost use Rattle.text.specs.Written.{hex_value, in_millimetres};
 
 pub use edits::{edit_in, plain_edit_in};
-pub use numbers::{Numeral, cut, first, number};
+pub use numbers::{Numeral, cut, first, number, two};
 use std::alloc::{AllocError, Global};
 
 // The value of a hexadecimal digit: 0 to 9, a to f.

@@ -1,6 +1,6 @@
 // A number as a word of a text.
 ghost use Rattle.std.specs.Prelude.{◌≡◌, ℕ, List, ◌∷◌, ◌++◌, MatchOption};
-ghost use Rattle.text.specs.Words.{Finds, Visible, NoSpace, Before, Number, Kind, Word};
+ghost use Rattle.text.specs.Words.{Finds, Visible, NoSpace, Before, Both, Number, Kind, Word};
 ghost use Rattle.text.specs.Numerals.{NoPlus, Parsed, word_parsed, word_visible, word_sole, number_parsed, number_visible, number_sole, kind_parsed, kind_visible, kind_sole};
 
 use std::num::ParseIntError;
@@ -86,4 +86,12 @@ pub fn first<T: Numeral>(text: &str) -> Option<(T, &str)>
 {
     let (front, rest) = cut(text)?;
     Some((number(front)?, rest))
+}
+
+// Two numbers, one space apart.
+pub fn two<A: Numeral + Drop, B: Numeral>(text: &str) -> Option<(A, B)>
+    ensures { Finds result (λ x. Both (A.writes x.0) (B.writes x.1) text.now) }
+{
+    let (a, rest) = first(text)?;
+    Some((a, number(rest)?))
 }

@@ -8,31 +8,20 @@ use cluster::{Cluster, Outcome};
 use held::{Closing, close, write_off};
 use machine::UndoMachine;
 use session::open;
-use sheet::Edit;
+use sheet::{Edit, Kind};
 use std::io;
 use store::RecordStore;
 
 type Servers = Cluster<BufferedStore<RecordStore>, UndoMachine>;
 
-// An edit that sets the cell at row 1 and size 5.
-fn sets(a: i32) -> Edit {
+// An edit of row 1 and size 5: it sets the cell to `a`, or grades the row by a/q a size.
+fn edit(kind: Kind, a: i32, q: i32) -> Edit {
     Edit {
-        kind: 1,
+        kind: kind.into(),
         row: 1,
         size: 5,
         a,
-        q: 0,
-    }
-}
-
-// An edit that grades row 1 from size 5, by a/2 a size.
-fn grades(a: i32) -> Edit {
-    Edit {
-        kind: 2,
-        row: 1,
-        size: 5,
-        a,
-        q: 2,
+        q,
     }
 }
 
@@ -55,14 +44,14 @@ fn replicate(cluster: &mut Servers, leader: u32, other: u32) {
 // Server 1 leads, and commits the first of three edits; server 2 takes over, and commits another in place of the second.
 fn story(cluster: &mut Servers) -> [Closing; 7] {
     elect(cluster, 1, 1);
-    let base = cluster.propose_ticket(1, sets(7200)).ok();
+    let base = cluster.propose_ticket(1, edit(Kind::Set, 7200, 0)).ok();
     replicate(cluster, 1, 2);
-    let waistband = cluster.propose_ticket(1, grades(415)).ok();
-    let seam = cluster.propose_ticket(1, sets(7240)).ok();
+    let waistband = cluster.propose_ticket(1, edit(Kind::Grade, 415, 2)).ok();
+    let seam = cluster.propose_ticket(1, edit(Kind::Set, 7240, 0)).ok();
     let (base, first) = close(base, cluster, 1);
     let (waistband, second) = close(waistband, cluster, 1);
     elect(cluster, 2, 2);
-    let other = cluster.propose_ticket(2, grades(425)).ok();
+    let other = cluster.propose_ticket(2, edit(Kind::Grade, 425, 2)).ok();
     for _ in 0..3 {
         replicate(cluster, 2, 3);
     }

@@ -1,6 +1,6 @@
 // The commands of a script.
 use sheet::Edit;
-use text::{edit_in, first, number};
+use text::{edit_in, two};
 
 #[derive(Clone, Copy)]
 pub enum Command<'a> {
@@ -16,22 +16,16 @@ pub enum Command<'a> {
     Seam(i32, i32),
 }
 
-// Two numbers, one space apart.
-fn pair_in(text: &str) -> Option<(i32, i32)> {
-    let (one, rest) = first(text)?;
-    Some((one, number(rest)?))
-}
-
 fn with_words<'a>(word: &str, rest: &'a str) -> Option<Command<'a>> {
     match word {
         "say" => Some(Command::Say(rest)),
         "edit" => Some(Command::Apply(edit_in(rest)?)),
         "cell" => {
-            let (row, size) = pair_in(rest)?;
+            let (row, size) = two(rest)?;
             Some(Command::Cell(row, size))
         }
         "seam" => {
-            let (first, second) = pair_in(rest)?;
+            let (first, second) = two(rest)?;
             Some(Command::Seam(first, second))
         }
         _ => None,
