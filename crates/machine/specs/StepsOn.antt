@@ -1,7 +1,7 @@
 -- Open edits applied to the oldest sheet, one after the other.
-use Rattle.std.specs.Prelude.{◌≡◌, ℕ, ◌+◌, ◌<◌, List, [], ◌∷◌, ◌++◌, length, take, slice_index_or, refl}
-use Rattle.std.proofs.Common.{sym, ap, ◌∙◌, arith}
-use Rattle.std.proofs.lemmas.List.{take_more}
+use Rattle.std.specs.Prelude.{◌≡◌, ℕ, ◌+◌, ◌<◌, List, [], ◌∷◌, ◌++◌, length, take, drop, slice_index_or, refl}
+use Rattle.std.proofs.Common.{sym, ap, ◌∙◌, arith, add-one}
+use Rattle.std.proofs.lemmas.List.{take_more, take_at}
 use Rattle.sheet.specs.declared.types.Edit.{Edit}
 use Rattle.sheet.specs.Rules.{next}
 use Rattle.machine.specs.States.{newest}
@@ -28,3 +28,22 @@ pub newest_more : (d s t : List (List ℕ)) (es : List Edit) (i : ℕ) (x : Edit
 newest_more d s t es i x h e =
     ap (λ (u : List (List ℕ)). next u (slice_index_or es i x)) e
     ∙ sym (ap (newest d) (ap (steps_on (s ∷ [])) (take_more es i x h) ∙ on_more d s (take i es) (slice_index_or es i x)))
+
+-- from the oldest but one on, the same states without the oldest
+on_base : (t : List (List ℕ)) (us oldest : List (List (List ℕ))) (es : List Edit) → steps_on (t ∷ (us ++ oldest)) es ≡ steps_on (t ∷ us) es ++ oldest
+on_base t us oldest [] = refl
+on_base t us oldest (e ∷ es) = on_base (next t e) (t ∷ us) oldest es
+
+settled_tail : (s : List (List ℕ)) (e : Edit) (es : List Edit) → steps_on (next s e ∷ []) es ≡ take (length es + 1) (steps_on (s ∷ []) (e ∷ es))
+settled_tail s e es =
+    sym (take_at (steps_on (next s e ∷ []) es) (s ∷ []) (length es + 1) (on_count (next s e) es))
+    ∙ ap (take (length es + 1)) (sym (on_base (next s e) [] (s ∷ []) es))
+
+pub on_settled : (s : List (List ℕ)) (es : List Edit) (first : Edit) → 0 < length es → first ≡ slice_index_or es 0 first
+    → steps_on (next s first ∷ []) (drop 1 es) ≡ take (length es) (steps_on (s ∷ []) es)
+on_settled s [] first h f = absurd (omega arith)
+on_settled s (e ∷ es) first h f =
+    ap (λ (x : Edit). steps_on (next s x ∷ []) es) f ∙ settled_tail s e es ∙ ap (λ (k : ℕ). take k (steps_on (s ∷ []) (e ∷ es))) (add-one (length es))
+
+pub on_undone : (s : List (List ℕ)) (es left : List Edit) (e : Edit) → es ≡ left ++ e ∷ [] → steps_on (s ∷ []) left ≡ drop 1 (steps_on (s ∷ []) es)
+on_undone s es left e h = sym (ap (λ (xs : List Edit). drop 1 (steps_on (s ∷ []) xs)) h ∙ ap (drop 1) (on_more s s left e))
