@@ -10,3 +10,6 @@ pub use answering::answer_line;
 pub use making::make;
 pub use opening::{open, parts};
 pub use running::run_commands;
+
+#[cfg(test)]
+mod tests;
