@@ -10,6 +10,8 @@ use std::alloc::{AllocError, Global};
 #[cfg(test)]
 mod tests;
 
+// Kept: ghost fields and no impl Model, since the laws of a machine and of a store need the bound of a value that no call has made.
+// Kept: a Vec and no ArrayVec, whose room lies in the value, so that moving a machine or a store would copy all of it.
 #[derive(Drop)]
 pub struct Bounded<T, const N: usize> {
     items: Vec<T>,

@@ -22,6 +22,7 @@ use store::Store;
 
 impl<S: Store + Drop, M: StateMachine + Drop> Cluster<S, M> {
     // Clears the stores, resets the machines, and reserves all memory that the calls will need.
+    // Kept: three pairs, since an array of a type parameter owes each caller a bound on its size.
     pub fn open(
         heap: Global,
         first: (S, M),
@@ -41,6 +42,7 @@ impl<S: Store + Drop, M: StateMachine + Drop> Cluster<S, M> {
         })
     }
 
+    // Kept: each call finds its server in two lines, since a method that lends one needs a longer contract on what the loan leaves behind.
     // A server takes the next term and asks for votes. Tells how many messages were lost.
     pub fn campaign(&mut self, server: u32) -> Result<u32, Refusal>
         ensures { Calls (campaign server) (said lost (told result)) self.old self.new }

@@ -35,10 +35,7 @@ impl Network {
         ensures lost { result ≡ lost_of self.old.messages.items.items }
         ensures few { result ≤ 1 }
     {
-        match self.messages.push(message) {
-            Ok(()) => 0,
-            Err(_) => 1,
-        }
+        u32::from(self.messages.push(message).is_err())
     }
 
     pub(crate) fn post_some(&mut self, message: Option<Message>) -> u32

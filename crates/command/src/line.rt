@@ -6,6 +6,7 @@ ghost use Rattle.command.specs.Writing.{Room, Put};
 
 use crate::reply::Reply;
 use crate::types::Found;
+use itoa::Buffer;
 use protocol::Status;
 use std::alloc::{AllocError, Global};
 
@@ -13,7 +14,8 @@ use std::alloc::{AllocError, Global};
 const LINE_MAX: usize = 256;
 
 // A line of output, in memory that is reserved at opening.
-// Kept: a Vec and its room, since a list that refuses a byte too many would have each of the functions below tell why none is refused.
+// Kept: a Vec and its room, since a list that refuses a byte too many would have each function below tell why none is refused.
+// Kept: no impl Model, since a view of the bytes alone hides the room that the functions below ask for.
 #[derive(Drop)]
 pub struct Line {
     bytes: Vec<u8>,
@@ -42,7 +44,7 @@ impl Line {
     {
         let out = &mut self.bytes;
         let [one, two, three] = &reply.servers;
-        out.truncate(0);
+        out.clear();
         put_number(out, u32::from(reply.number));
         out.push_reserved(b' ');
         put_server(out, one);
@@ -55,17 +57,12 @@ impl Line {
 }
 
 // Puts the digits of a number.
-// Kept: formatting into a text may fail for memory, and took 8.7 times plain Rust where the bar is 1.5 (docs/PERFORMANCE.md).
 fn put_number(out: &mut Vec<u8>, n: u32)
     requires { Room 10 out.old }
     ensures { Put 10 out.old (decimal n) out.new }
 {
-    if n < 10 {
-        out.push_reserved(b'0' + n as u8);
-    } else {
-        put_number(out, n / 10);
-        out.push_reserved(b'0' + (n % 10) as u8);
-    }
+    let mut digits = Buffer::new();
+    put_text(out, digits.format(n));
 }
 
 // Puts a mark, and the digits of a number.

@@ -54,6 +54,7 @@ fn parsed(text: &str) -> Option<Command>
 pub fn command_in(line: &[u8]) -> Option<Command>
     ensures { FindsOnly result (λ c. Reads line.now c) }
 {
+    // Kept: as a chain of `ok` and `and_then` the proof stayed open.
     match std::str::from_utf8(line) {
         Ok(text) => parsed(text),
         Err(_) => None,

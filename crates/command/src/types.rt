@@ -11,6 +11,7 @@ use sheet::Edit;
 #[derive(Clone, Copy)]
 pub enum Command {
     Campaign { server: u32 },
+    // Kept: a number, as the line has it, of which any but 0 keeps the message.
     Deliver { position: u32, keep: u32 },
     Lose { position: u32 },
     Propose { server: u32, edit: Edit },
@@ -58,6 +59,7 @@ pub enum Found {
     Cell(u16),
 }
 
+// Kept: by hand and not by thiserror's derive, since `from_gives` is what `?` tells a contract.
 impl From<Refusal> for Problem {
     ghost from_gives = { λ refusal problem. problem ≡ Refused refusal };
 
@@ -72,6 +74,7 @@ impl Problem {
         ensures { result ≡ problem_number self }
     {
         match self {
+            // Kept: a variant beside one with a field has no number of its own.
             Problem::NoCommand => 14,
             Problem::Refused(refusal) => refusal.number(),
         }

@@ -221,10 +221,7 @@ fn step(rt: &HostRuntime, bench: &mut Bench, command: Option<Command>) -> io::Re
 }
 
 fn on_line(rt: &HostRuntime, bench: &mut Bench, line: &[u8]) -> io::Result<()> {
-    let command = match std::str::from_utf8(line) {
-        Ok(text) => command_in(text),
-        Err(_) => None,
-    };
+    let command = std::str::from_utf8(line).ok().and_then(command_in);
     step(rt, bench, command)
 }
 

@@ -9,3 +9,6 @@ pub mod undo;
 pub use replay::ReplayMachine;
 pub use state_machine::{Opens, StateMachine};
 pub use undo::UndoMachine;
+
+// At most so many edits are open.
+pub const OPEN_MAX: usize = 16;

@@ -1,4 +1,5 @@
 // The machine that keeps the newest sheet and, for each open edit, the row that it replaced.
+use crate::OPEN_MAX;
 use bounded::Bounded;
 use sheet::{Row, Sheet};
 
@@ -11,9 +12,9 @@ pub struct Replaced {
     row: Option<Row>,
 }
 
-// The replaced rows stand oldest first, sixteen at most.
+// The replaced rows stand oldest first.
 #[derive(Drop)]
 pub struct UndoMachine {
     newest: Sheet,
-    replaced: Bounded<Replaced, 16>,
+    replaced: Bounded<Replaced, OPEN_MAX>,
 }

@@ -21,6 +21,7 @@ pub struct Progress {
 pub struct Node<S: Store + Drop> {
     pub up: bool,
     pub store: S,
+    // Kept: beside what belongs to a candidate or a leader, since the rules keep both when a role ends.
     pub role: Role,
     // A candidate's voters; a leader's progress with each server.
     pub voters: [bool; 3],

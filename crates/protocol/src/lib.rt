@@ -69,6 +69,7 @@ pub struct AppendEntries {
 #[derive(Clone, Copy, Debug, PartialEq, Eq)]
 pub enum Body {
     // A candidate's last term and length, as one pair.
+    // Kept: a tuple, since the rules compare the two as one pair, the term weighing first, which is its own order.
     VoteRequest((u32, u32)),
     VoteReply(bool),
     AppendRequest(AppendEntries),

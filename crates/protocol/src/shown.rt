@@ -46,8 +46,7 @@ impl fmt::Display for Standing {
     ghost output = { λ standing. Some (standing_shown standing) };
 
     fn fmt<W: fmt::Write>(&self, f: &mut fmt::Formatter<W>) -> fmt::Result {
-        let word = self.word();
-        write!(f, "{word}")
+        f.write_str(self.word())
     }
 }
 
@@ -55,12 +54,15 @@ impl fmt::Display for Status {
     ghost output = { λ status. Some (server_shown status) };
 
     fn fmt<W: fmt::Write>(&self, f: &mut fmt::Formatter<W>) -> fmt::Result {
-        let term = self.term;
-        let state = self.state();
-        let length = self.length;
-        let durable = self.durable;
-        let commit = self.commit;
-        let applied = self.applied;
-        write!(f, "{term}/{state}/{length}/{durable}/{commit}/{applied}")
+        write!(
+            f,
+            "{}/{}/{}/{}/{}/{}",
+            self.term,
+            self.state(),
+            self.length,
+            self.durable,
+            self.commit,
+            self.applied
+        )
     }
 }

@@ -2,6 +2,7 @@
 use crate::entry::Entry;
 
 // A server's term, and the server that it voted for in that term: 0 for none.
+// Kept: the vote is a number, since a record reads and writes any of 16 bits, and an image tells which are servers.
 #[derive(Clone, Copy, Debug, Default, PartialEq, Eq)]
 pub struct Ballot {
     pub term: u32,

@@ -11,6 +11,7 @@ use node::ids::place_of;
 use protocol::{AppendEntries, Body, Message, Role, ServerId};
 use store::Store;
 
+// Kept: node and me one by one, since a struct of both would be made anew from a loan of the node at each call.
 // The append request to a receiver: the entry before next, the commit, and entry next if it is held.
 pub fn append_request<S: Store + Drop>(node: &Node<S>, me: ServerId, receiver: ServerId) -> Message
     ensures { result ≡ append_request me (server_of S.Store node.now) receiver }

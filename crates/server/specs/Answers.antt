@@ -11,10 +11,11 @@ use Rattle.protocol.specs.AppendEntries.{append_request}
 use Rattle.protocol.specs.Rules.{may_keep}
 use Rattle.server.specs.declared.Proposed.{Proposed}
 
--- a proposal's number and term, or the number of its refusal
+-- what a proposal is known by
 abbrev pub pair_of : Proposed → ℕ × ℕ
 pair_of p = (p.number, p.term)
 
+-- a proposal's number and term, or the number of its refusal
 abbrev pub told_proposed : Result Proposed Refusal → Result (ℕ × ℕ) ℕ
 told_proposed = result_map_both pair_of number_of
 

@@ -16,7 +16,7 @@ use refusal::Refusal;
 use replication::leading::{hear_reply, raise, sync_log};
 use replication::receiving::hear_append;
 use sheet::Edit;
-use store::Store;
+use store::{MAX_ENTRIES, Store};
 
 // A message at its receiver: it takes the term if it is higher, and hears the message.
 pub fn hear<S: Store + Drop>(node: &mut Node<S>, message: Message) -> Option<Message>
@@ -59,7 +59,7 @@ pub fn propose<S: Store + Drop>(node: &mut Node<S>, edit: Edit) -> Result<Propos
         return Err(Refusal::NotLeader);
     }
     let length = node.len();
-    if length >= 64 {
+    if length as usize >= MAX_ENTRIES {
         return Err(Refusal::LogFull);
     }
     let term = node.store.term();
@@ -152,6 +152,7 @@ pub fn restart<S: Store + Drop>(node: &mut Node<S>) -> Result<(), Refusal>
 }
 
 // What the node tells of a number and a term.
+// Kept: one by one, as `Server::standing` has them.
 pub fn standing_of<S: Store + Drop>(node: &Node<S>, number: u32, term: u32) -> Standing
     ensures { result ≡ standing_of (server_of S.Store node.now) number term }
 {

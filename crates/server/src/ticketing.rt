@@ -5,7 +5,7 @@ ghost use Rattle.protocol.specs.Calls.{propose_answer, close_answer};
 ghost use Rattle.server.specs.Turns.{state_of, Turned};
 ghost use Rattle.server.specs.Tickets.{told_ticket, told_outcome, told_closed, HandsBack};
 
-use crate::{Outcome, Server, Ticket, Unclosed};
+use crate::{Outcome, Proposed, Server, Ticket, Unclosed};
 use machine::StateMachine;
 use refusal::Refusal;
 use sheet::Edit;
@@ -21,11 +21,11 @@ impl<S: Store + Drop, M: StateMachine + Drop> Server<S, M> {
         Ok(Ticket { proposed })
     }
 
-    // What became of the entry with a number and a term, if the server can tell.
-    fn outcome(&self, number: u32, term: u32) -> Result<Outcome, Refusal>
-        ensures { told_outcome result ≡ close_answer (state_of S.Store self.now) number term }
+    // What became of a proposal, if the server can tell.
+    fn outcome(&self, proposed: Proposed) -> Result<Outcome, Refusal>
+        ensures { told_outcome result ≡ close_answer (state_of S.Store self.now) proposed.number proposed.term }
     {
-        let standing = self.standing(number, term)?;
+        let standing = self.standing(proposed.number, proposed.term)?;
         Outcome::try_from(standing)
     }
 
@@ -34,7 +34,7 @@ impl<S: Store + Drop, M: StateMachine + Drop> Server<S, M> {
         ensures says { told_closed result ≡ close_answer (state_of S.Store self.now) ticket.proposed.number ticket.proposed.term }
         ensures back { HandsBack result ticket }
     {
-        match self.outcome(ticket.number(), ticket.term()) {
+        match self.outcome(ticket.proposed) {
             Ok(outcome) => {
                 ticket.write_off();
                 Ok(outcome)

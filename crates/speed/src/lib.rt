@@ -6,7 +6,7 @@ ghost use Rattle.std.specs.Prelude.{◌≡◌, ◌<◌};
 use machine::rehearsal::{apply_all, undo_times};
 use machine::{Opens, StateMachine};
 use sheet::{Edit, Kind};
-use std::alloc::Global;
+use std::alloc::{AllocError, Global};
 use std::array;
 
 // The edit number `k` of round `n`.
@@ -70,14 +70,11 @@ fn filled<M: StateMachine>(machine: &mut M) {
     }
 }
 
-// Every cell 10,000, then the rounds: the sum of what was read; the largest number where there is no memory.
-pub fn rounds<M: Opens + Drop>(heap: Global, count: u32) -> u64 {
-    let Ok(mut machine) = M::open(heap) else {
-        return u64::MAX;
-    };
+// Every cell 10,000, then the rounds: the sum of what was read.
+pub fn rounds<M: Opens + Drop>(heap: Global, count: u32) -> Result<u64, AllocError> {
+    let mut machine = M::open(heap)?;
     filled(&mut machine);
-    (0..count).fold(
-        0u64,
-        |sum, n| sum.wrapping_add(u64::from(round(&mut machine, n))),
-    )
+    Ok((0..count).fold(0u64, |sum, n| {
+        sum.wrapping_add(u64::from(round(&mut machine, n)))
+    }))
 }

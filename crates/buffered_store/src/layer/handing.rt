@@ -19,7 +19,7 @@ fn append_all<S: Store>(below: &mut S, entries: &[Entry])
 impl<S: Store> BufferedStore<S> {
     // Hands all entries down.
     pub(crate) fn hand_down(&mut self)
-        ensures { layered S.Store.meaning self.new ≡ over (whole (layered S.Store.meaning self.old)) }
+        ensures { layered S.Store self.new ≡ over (whole (layered S.Store self.old)) }
     {
         append_all(&mut self.below, self.own.items());
         self.own.clear();
@@ -27,8 +27,8 @@ impl<S: Store> BufferedStore<S> {
 
     // Hands all entries down where as many are held back as may be.
     pub(crate) fn make_room(&mut self)
-        ensures layer { layered S.Store.meaning self.new ≡ with_room (layered S.Store.meaning self.old) }
-        ensures room { length (layered S.Store.meaning self.new).own < 8 }
+        ensures layer { layered S.Store self.new ≡ with_room (layered S.Store self.old) }
+        ensures room { length (layered S.Store self.new).own < 8 }
     {
         if self.own.len() >= MAX_HELD {
             self.hand_down();

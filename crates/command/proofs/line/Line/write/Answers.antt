@@ -21,4 +21,4 @@ returns c =
     (put_then c.put_server-3.ensures c.put_ending.ensures))))))
     in
     (put_is all (ap (λ z. decimal reply.number ++ z) (sym (three_before (ending_shown reply.found) reply.servers three _)))).items
-    ∙ ap (λ z. z ++ shown reply) c.truncate.ensures.items
+    ∙ ap (λ z. z ++ shown reply) c.clear.ensures.items
