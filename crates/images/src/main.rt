@@ -151,20 +151,24 @@ fn write(rt: &HostRuntime, bench: &mut Bench, room: u32) -> io::Result<()> {
     Ok(())
 }
 
-fn read_text(rt: &HostRuntime, bench: &mut Bench, text: &str) -> io::Result<()> {
+// Does something with the bytes that a text writes in digits.
+fn with_bytes<F: FnOnce(&[u8]) -> io::Result<()>>(
+    rt: &HostRuntime,
+    text: &str,
+    then: F,
+) -> io::Result<()>
+    requires { F.IsAlwaysCallable then }
+{
     match bytes_in(rt.alloc(), text)? {
-        Some(bytes) => read_all(rt, bench, bytes.as_slice()),
+        Some(bytes) => then(bytes.as_slice()),
         None => println!(rt; "not a command"),
     }
 }
 
-fn load(rt: &HostRuntime, bench: &mut Bench, text: &str) -> io::Result<()> {
-    match bytes_in(rt.alloc(), text)? {
-        Some(bytes) => match image::read(&mut bench.store, bytes.as_slice()) {
-            Ok(()) => show(rt, &bench.store),
-            Err(fault) => show_fault(rt, fault),
-        },
-        None => println!(rt; "not a command"),
+fn load(rt: &HostRuntime, bench: &mut Bench, bytes: &[u8]) -> io::Result<()> {
+    match image::read(&mut bench.store, bytes) {
+        Ok(()) => show(rt, &bench.store),
+        Err(fault) => show_fault(rt, fault),
     }
 }
 
@@ -212,11 +216,11 @@ fn step(rt: &HostRuntime, bench: &mut Bench, command: Option<Command>) -> io::Re
         }
         Command::Show => show(rt, &bench.store),
         Command::Write(room) => write(rt, bench, room),
-        Command::Read(text) => read_text(rt, bench, text),
+        Command::Read(text) => with_bytes(rt, text, |bytes| read_all(rt, bench, bytes)),
         Command::Reread => damaged(rt, bench, usize::MAX, None),
         Command::Cut(length) => damaged(rt, bench, length as usize, None),
         Command::Byte(at, value) => damaged(rt, bench, usize::MAX, Some((at, value))),
-        Command::Load(text) => load(rt, bench, text),
+        Command::Load(text) => with_bytes(rt, text, |bytes| load(rt, bench, bytes)),
     }
 }
 

@@ -19,6 +19,7 @@ pub(crate) fn close<S: Store + Drop, M: StateMachine + Drop>(
     cluster: &Cluster<S, M>,
     server: u32,
 ) -> (Option<Ticket>, Closing) {
+    // Kept: the numbers of a spent ticket are told as 0, as a line of the story prints a number in their place.
     let Some(ticket) = held else {
         let closing = Closing {
             server,
