@@ -1,6 +1,6 @@
 -- A run by commands, one command more at a time.
-use Rattle.std.proofs.Common.{◌≡◌, ℕ, ◌+◌, ◌<◌, ◌≤◌, List, [], ◌∷◌, ◌++◌, length, Result, get_or, take, sym, refl, ap, ◌∙◌, subst, arith, length-append}
-use Rattle.std.proofs.lemmas.List.{length-take-le, take_all, take_more}
+use Rattle.std.proofs.Common.{◌≡◌, ℕ, ◌+◌, ◌<◌, List, [], ◌∷◌, ◌++◌, length, Result, get_or, take, sym, refl, ap, ◌∙◌, subst, arith, length-append}
+use Rattle.std.proofs.lemmas.List.{take_more}
 use Rattle.protocol.specs.State.{Machine, Cluster as Model, opening}
 use Rattle.protocol.specs.Runs.{History, Run, following}
 use Rattle.protocol.specs.Promises.{Promises}
@@ -42,11 +42,3 @@ module _ {X : Type 0} (K : Machine X) where
       → answers' ≡ answers ++ a ∷ [] → Ran K (take i ks) answers before → Called K (call_of (get_or ks i d) (kept_in a)) (answer_of (told a)) before later
       → Ran K (take (i + 1) ks) answers' later
   ran_more ks i d h answers answers' a before later e r c = rw (take_more ks i d h, e) (more (take i ks) answers (get_or ks i d) a before later r c)
-
-  -- after the last
-  pub ran_all : (ks : List Command) (i : ℕ) (answers : List (Result Told Refusal)) (later : Model X) → length ks ≤ i → Ran K (take i ks) answers later → Ran K ks answers later
-  ran_all ks i answers later h r = subst (λ (l : List Command). Ran K l answers later) (take_all i ks h) r
-
-  -- there are as many answers as commands
-  pub ran_long : (ks : List Command) (i : ℕ) (answers : List (Result Told Refusal)) (later : Model X) → i ≤ length ks → Ran K (take i ks) answers later → length answers ≡ i
-  ran_long ks i answers later h r = r.all ∙ length-take-le i ks h
