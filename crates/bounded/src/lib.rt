@@ -44,7 +44,8 @@ impl<T: Drop, const N: usize> Bounded<T, N> {
 
     // Adds an item at the end; refused where there are N.
     pub fn push(&mut self, item: T) -> Result<(), Refusal>
-        ensures { MatchResult result (λ _. (length self.old.items.items < N) × (self.new.items.items ≡ self.old.items.items ++ item ∷ [])) (λ e. (e ≡ OutOfBounds) × (N ≤ length self.old.items.items) × (self.new.items.items ≡ self.old.items.items)) }
+        ensures items { MatchResult result (λ _. (length self.old.items.items < N) × (self.new.items.items ≡ self.old.items.items ++ item ∷ [])) (λ e. (e ≡ OutOfBounds) × (N ≤ length self.old.items.items) × (self.new.items.items ≡ self.old.items.items)) }
+        ensures capacity { vec_capacity self.new.items ≡ vec_capacity self.old.items }
     {
         if self.items.len() >= N {
             return Err(Refusal::OutOfBounds);
@@ -55,14 +56,16 @@ impl<T: Drop, const N: usize> Bounded<T, N> {
 
     // Takes out the last item; refused where there is none.
     pub fn pop(&mut self) -> Result<T, Refusal>
-        ensures { MatchResult result (λ last. self.old.items.items ≡ self.new.items.items ++ last ∷ []) (λ e. (e ≡ OutOfBounds) × (self.old.items.items ≡ []) × (self.new.items.items ≡ [])) }
+        ensures items { MatchResult result (λ last. self.old.items.items ≡ self.new.items.items ++ last ∷ []) (λ e. (e ≡ OutOfBounds) × (self.old.items.items ≡ []) × (self.new.items.items ≡ [])) }
+        ensures capacity { vec_capacity self.new.items ≡ vec_capacity self.old.items }
     {
         self.items.pop().ok_or(Refusal::OutOfBounds)
     }
 
     // Takes out the first item; refused where there is none.
     pub fn pop_first(&mut self) -> Result<T, Refusal>
-        ensures { MatchResult result (λ first. self.old.items.items ≡ first ∷ self.new.items.items) (λ e. (e ≡ OutOfBounds) × (self.old.items.items ≡ []) × (self.new.items.items ≡ [])) }
+        ensures items { MatchResult result (λ first. self.old.items.items ≡ first ∷ self.new.items.items) (λ e. (e ≡ OutOfBounds) × (self.old.items.items ≡ []) × (self.new.items.items ≡ [])) }
+        ensures capacity { vec_capacity self.new.items ≡ vec_capacity self.old.items }
     {
         if self.items.is_empty() {
             return Err(Refusal::OutOfBounds);
@@ -72,7 +75,8 @@ impl<T: Drop, const N: usize> Bounded<T, N> {
 
     // Takes out the item at a place, from 0, if there is one.
     pub fn remove(&mut self, place: usize) -> Option<T>
-        ensures { MatchOption result ((length self.old.items.items ≤ place) × (self.new.items.items ≡ self.old.items.items)) (λ item. (place < length self.old.items.items) × (item ≡ slice_index_or self.old.items.items place item) × (self.new.items.items ≡ take place self.old.items.items ++ drop (place + 1) self.old.items.items)) }
+        ensures items { MatchOption result ((length self.old.items.items ≤ place) × (self.new.items.items ≡ self.old.items.items)) (λ item. (place < length self.old.items.items) × (item ≡ slice_index_or self.old.items.items place item) × (self.new.items.items ≡ take place self.old.items.items ++ drop (place + 1) self.old.items.items)) }
+        ensures capacity { vec_capacity self.new.items ≡ vec_capacity self.old.items }
     {
         if place < self.items.len() {
             Some(self.items.remove(place))
@@ -83,13 +87,15 @@ impl<T: Drop, const N: usize> Bounded<T, N> {
 
     // Keeps the first `n` items, or all where there are no more.
     pub fn truncate(&mut self, n: usize)
-        ensures { self.new.items.items ≡ take n self.old.items.items }
+        ensures items { self.new.items.items ≡ take n self.old.items.items }
+        ensures capacity { vec_capacity self.new.items ≡ vec_capacity self.old.items }
     {
         self.items.truncate(n);
     }
 
     pub fn clear(&mut self)
-        ensures { self.new.items.items ≡ [] }
+        ensures items { self.new.items.items ≡ [] }
+        ensures capacity { vec_capacity self.new.items ≡ vec_capacity self.old.items }
     {
         self.items.clear();
     }

@@ -54,6 +54,10 @@ module _ (n d : ℕ) (bs : List ℕ) where
   pub kept_law : (wish r : ℕ) → r ≡ min wish (n - d) → d + r ≡ kept_by wish (meant n d bs)
   kept_law wish r e = ap (λ k. d + k) (e ∙ ap (λ k. min wish (k - d)) (sym (length_entries n bs)))
 
+-- the ballot of no term and no vote, by its two numbers
+pub no_ballot : (b : Ballot) → b.term ≡ 0 → b.vote ≡ 0 → b ≡ record { term = 0; vote = 0 }
+no_ballot b term vote = λ i. record { term = term i; vote = vote i }
+
 -- after a write of the opening record
 module _ (bs out : List ℕ) (b : Ballot) (fits : BallotFits b) (e : out ≡ encode (Opening b) ++ drop 10 bs) where
   said_ballot : ballot_in (opening_part out) ≡ b

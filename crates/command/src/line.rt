@@ -6,7 +6,6 @@ ghost use Rattle.command.specs.Writing.{Room, Put};
 
 use crate::reply::Reply;
 use crate::types::Found;
-use itoa::Buffer;
 use protocol::Status;
 use std::alloc::{AllocError, Global};
 
@@ -57,12 +56,17 @@ impl Line {
 }
 
 // Puts the digits of a number.
+// Kept: by hand and not by the kit's itoa, whose statements would be trusted, and which takes three times as many instructions.
 fn put_number(out: &mut Vec<u8>, n: u32)
     requires { Room 10 out.old }
     ensures { Put 10 out.old (decimal n) out.new }
 {
-    let mut digits = Buffer::new();
-    put_text(out, digits.format(n));
+    if n < 10 {
+        out.push_reserved(b'0' + n as u8);
+    } else {
+        put_number(out, n / 10);
+        out.push_reserved(b'0' + (n % 10) as u8);
+    }
 }
 
 // Puts a mark, and the digits of a number.

@@ -1,5 +1,5 @@
 -- Replaced rows put back, one after the other.
-use Rattle.std.specs.Prelude.{◌≡◌, ℕ, suc, ◌+◌, true, List, [], ◌∷◌, ◌++◌, reverse, length, take, drop, ℤ, Some, None, Option, slice_index_or, slice_set, refl}
+use Rattle.std.specs.Prelude.{◌≡◌, ℕ, suc, ◌+◌, ◌-◌, true, List, [], ◌∷◌, ◌++◌, reverse, length, take, drop, ℤ, Some, None, Option, slice_index_or, slice_set, refl}
 use Rattle.std.proofs.Common.{sym, ap, ◌∙◌, inl, inr, arith}
 use Rattle.std.proofs.lemmas.List.{set-set, set-get_or, reverse-append, length-reverse}
 use Rattle.std.proofs.lemmas.Bool.{cases_Bool, cond-true, cond-false}
@@ -52,6 +52,15 @@ back_settled s r rs =
     front s (reverse rs) r
     ∙ ap (λ (k : ℕ). take (suc k) (steps_back s (reverse rs ++ r ∷ []))) (length-reverse rs)
     ∙ ap (λ (us : List Replaced). take (suc (length rs)) (steps_back s us)) (sym (reverse-append (r ∷ []) rs))
+
+-- the same by the rows before: left without the oldest of them, all states but the oldest
+pub back_oldest : (s : List (List ℕ)) (rs left : List Replaced) (r : Replaced) → rs ≡ r ∷ left
+    → steps_back s (reverse left) ≡ take (length (steps_back s (reverse rs)) - 1) (steps_back s (reverse rs))
+back_oldest s rs left r e =
+    let n : suc (length left) ≡ length (steps_back s (reverse (r ∷ left))) - 1 = omega (arith, back_count s (r ∷ left)) in
+    back_settled s r left
+    ∙ ap (λ (k : ℕ). take k (steps_back s (reverse (r ∷ left)))) n
+    ∙ sym (ap (λ (us : List Replaced). take (length (steps_back s (reverse us)) - 1) (steps_back s (reverse us))) e)
 
 -- the newest replaced row put back is all states but the newest
 pub back_undone : (s t : List (List ℕ)) (rs left : List Replaced) (u : Replaced) → rs ≡ left ++ u ∷ [] → t ≡ put_back s u

@@ -30,11 +30,12 @@ fn may_vote(vote: u16, candidate: ServerId) -> bool
 }
 
 // Whether two of the three servers say yes.
-#[tactic(auto, using(crate::proofs::Tallies::two_counted))]
+// Kept: each two by hand, since counting by `filter` and `count` takes half as long again where a leader goes through its log.
 pub fn two_of(votes: [bool; 3]) -> bool
     ensures { result ≡ two_of (of3 false votes) }
 {
-    votes.iter().filter(|vote| **vote).count() >= 2
+    let [first, second, third] = votes;
+    (first && second) || ((first && third) || (second && third))
 }
 
 impl<S: Store + Drop> Node<S> {

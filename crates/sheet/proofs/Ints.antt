@@ -26,8 +26,8 @@ pub record Steps (size a q s : ℤ) : Type 0 where
   pub far : SFits w32 (s -ℤ size)
   pub twice : SFits w32 (pos 2 *ℤ (s -ℤ size))
   pub spread : SFits w32 (pos 2 *ℤ (s -ℤ size) *ℤ a)
-  pub away : SFits w32 (pos 2 *ℤ (s -ℤ size) *ℤ a +ℤ q)
-  pub divisor : SFits w32 (pos 2 *ℤ q)
+  pub low_spread : negsuc 2199999 ≤ℤ (pos 2 *ℤ (s -ℤ size) *ℤ a)
+  pub high_spread : (pos 2 *ℤ (s -ℤ size) *ℤ a) ≤ℤ pos 2200000
   pub low : negsuc 2999999 ≤ℤ floor_div (pos 2 *ℤ (s -ℤ size) *ℤ a +ℤ q) (pos 2 *ℤ q)
   pub high : floor_div (pos 2 *ℤ (s -ℤ size) *ℤ a +ℤ q) (pos 2 *ℤ q) ≤ℤ pos 3000000
 
@@ -40,8 +40,8 @@ steps size a q s i j k l =
       far = omega (arith, ints);
       twice = omega (arith, ints);
       spread = omega (arith, ints);
-      away = omega (arith, ints);
-      divisor = omega (arith, ints);
+      low_spread = b.0;
+      high_spread = b.1;
       low = f.0;
       high = f.1;
     }

@@ -1,7 +1,7 @@
 // One row: a cell set, or the whole row graded.
-ghost use Rattle.std.specs.Prelude.{◌≡◌, ℕ, ◌+◌, ◌<◌, ◌≤◌, true, false, ℤ, pos, negsuc, ◌≤ℤ◌, IfSome, MatchOption, slice_index};
+ghost use Rattle.std.specs.Prelude.{◌≡◌, ℕ, ◌+◌, ◌<◌, ◌≤◌, true, false, ℤ, pos, negsuc, ◌+ℤ◌, ◌-ℤ◌, ◌*ℤ◌, ◌≤ℤ◌, IfSome, MatchOption, slice_index};
 ghost use Rattle.sheet.specs.Cells.{row_in};
-ghost use Rattle.sheet.specs.Rules.{between, in_range, place, may_grade, graded, set_row, grade_row};
+ghost use Rattle.sheet.specs.Rules.{between, in_range, place, may_grade, floor_div, graded, set_row, grade_row};
 ghost use Rattle.sheet.specs.Grading.{Graded};
 
 use super::types::{CELL_MAX, Row};
@@ -25,6 +25,14 @@ fn cell_of(number: i32) -> Option<u16>
         0..=LARGEST => Some(number as u16),
         _ => None,
     }
+}
+
+// The quotient of `z` by twice `q`, rounded down.
+fn floor_div(z: i32, q: i32) -> i32
+    requires { (pos 1 ≤ℤ q) × (q ≤ℤ pos 1000) }
+    ensures { result ≡ floor_div z (pos 2 *ℤ q) }
+{
+    z.div_euclid(2 * q)
 }
 
 // How a row is graded: from the base cell at `size`, by `a` every `q` sizes.
@@ -52,13 +60,20 @@ impl Grading {
         }
     }
 
+    // Twice the way from the base size to `s`, at a step of `a`, and `q` more.
+    fn away(&self, s: i32) -> i32
+        requires { (pos 1 ≤ℤ s) × (s ≤ℤ pos 12) }
+        ensures { result ≡ pos 2 *ℤ (s -ℤ self.now.size) *ℤ self.now.a +ℤ self.now.q }
+    {
+        2 * (s - self.size) * self.a + self.q
+    }
+
     // What grading gives at size `s`, in range or not.
     fn number(&self, s: i32) -> i32
         requires { (pos 1 ≤ℤ s) × (s ≤ℤ pos 12) }
         ensures { result ≡ graded self.now.base self.now.size self.now.a self.now.q s }
     {
-        let away = 2 * (s - self.size) * self.a + self.q;
-        i32::from(self.base) + away.div_euclid(2 * self.q)
+        i32::from(self.base) + floor_div(self.away(s), self.q)
     }
 
     // The graded cell at the place `i`, unless it would leave its range.

@@ -4,10 +4,13 @@
 ghost use Rattle.std.specs.Prelude.{◌≡◌, ◌<◌};
 
 use machine::rehearsal::{apply_all, undo_times};
-use machine::{Opens, StateMachine};
+use machine::{Opens, ReplayMachine, StateMachine, UndoMachine};
 use sheet::{Edit, Kind};
 use std::alloc::{AllocError, Global};
 use std::array;
+
+#[cfg(test)]
+mod tests;
 
 // The edit number `k` of round `n`.
 fn grade_edit(n: u32, k: u32) -> Edit
@@ -77,4 +80,15 @@ pub fn rounds<M: Opens + Drop>(heap: Global, count: u32) -> Result<u64, AllocErr
     Ok((0..count).fold(0u64, |sum, n| {
         sum.wrapping_add(u64::from(round(&mut machine, n)))
     }))
+}
+
+// The rounds over a machine that keeps replaced rows; the largest number where there is no memory.
+// Kept: two names of one generic function, since C calls each by its name, and neither can fail.
+pub fn undo_rounds(heap: Global, count: u32) -> u64 {
+    rounds::<UndoMachine>(heap, count).unwrap_or(u64::MAX)
+}
+
+// The same over a machine that keeps the open edits.
+pub fn replay_rounds(heap: Global, count: u32) -> u64 {
+    rounds::<ReplayMachine>(heap, count).unwrap_or(u64::MAX)
 }

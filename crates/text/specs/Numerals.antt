@@ -1,5 +1,5 @@
 -- The laws of the kinds of number that a text writes.
-use Rattle.std.proofs.Common.{◌≡◌, ℕ, zero, suc, Bool, true, false, cond, eqb, List, [], ◌∷◌, get_or, drop, ℤ, Ok, Err, Result, MatchResult, sym, ◌∙◌, subst, arith, true-eqb, refl, w32}
+use Rattle.std.proofs.Common.{◌≡◌, ℕ, ◌<◌, zero, suc, Bool, true, false, cond, eqb, List, [], ◌∷◌, length, get_or, drop, ℤ, Ok, Err, Result, MatchResult, sym, ◌∙◌, subst, arith, true-eqb, refl, w32}
 use Rattle.std.specs.Str.Parse.{AllDigits, ParsesUnsigned, ParsesSigned}
 use Rattle.std.specs.Int.{IsInRange}
 use Rattle.std.proofs.lemmas.Str.Parse.{digit_at, without_leading_plus_none}
@@ -34,6 +34,10 @@ pub word_visible : (z : ℤ) (bs : List ℕ) → Word z bs → Visible bs
 word_visible z [] w = λ i l. omega arith
 word_visible z (a ∷ cs) w = signs a cs (eqb a 45) (eqb a 43) refl refl w.digits.1
 
+pub word_filled : (z : ℤ) (bs : List ℕ) → Word z bs → 0 < length bs
+word_filled z [] w = w.digits.0
+word_filled z (a ∷ cs) w = omega arith
+
 pub word_sole : (y z : ℤ) (bs : List ℕ) → Word y bs → Word z bs → y ≡ z
 word_sole y z bs w v = w.value ∙ sym v.value
 
@@ -45,6 +49,10 @@ number_parsed bs (Err e) h p = λ n w. h (w.digits, w.fits)
 pub number_visible : (n : ℕ) (bs : List ℕ) → Number n bs → Visible bs
 number_visible n bs w = digits_visible bs (subst (AllDigits 10) (without_leading_plus_none bs w.no_plus) w.digits.1)
 
+pub number_filled : (n : ℕ) (bs : List ℕ) → Number n bs → 0 < length bs
+number_filled n [] w = w.digits.0
+number_filled n (a ∷ cs) w = omega arith
+
 pub number_sole : (m n : ℕ) (bs : List ℕ) → Number m bs → Number n bs → m ≡ n
 number_sole m n bs w v = w.value_is ∙ sym v.value_is
 
@@ -55,6 +63,9 @@ kind_parsed bs (Err e) h p = λ n w. h (w.0.digits, omega (arith, w.1, w.0.value
 
 pub kind_visible : (n : ℕ) (bs : List ℕ) → Kind n bs → Visible bs
 kind_visible n bs w = number_visible n bs w.0
+
+pub kind_filled : (n : ℕ) (bs : List ℕ) → Kind n bs → 0 < length bs
+kind_filled n bs w = number_filled n bs w.0
 
 pub kind_sole : (m n : ℕ) (bs : List ℕ) → Kind m bs → Kind n bs → m ≡ n
 kind_sole m n bs w v = number_sole m n bs w.0 v.0

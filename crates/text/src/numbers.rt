@@ -1,7 +1,7 @@
 // A number as a word of a text.
-ghost use Rattle.std.specs.Prelude.{◌≡◌, ℕ, List, ◌∷◌, ◌++◌, MatchOption};
+ghost use Rattle.std.specs.Prelude.{◌≡◌, ℕ, ◌<◌, List, ◌∷◌, ◌++◌, length, MatchOption};
 ghost use Rattle.text.specs.Words.{Finds, Visible, NoSpace, Before, Both, Number, Kind, Word};
-ghost use Rattle.text.specs.Numerals.{NoPlus, Parsed, word_parsed, word_visible, word_sole, number_parsed, number_visible, number_sole, kind_parsed, kind_visible, kind_sole};
+ghost use Rattle.text.specs.Numerals.{NoPlus, Parsed, word_parsed, word_visible, word_filled, word_sole, number_parsed, number_visible, number_filled, number_sole, kind_parsed, kind_visible, kind_filled, kind_sole};
 
 use std::num::ParseIntError;
 use std::str::FromStr;
@@ -20,6 +20,9 @@ pub trait Numeral: FromStr<Err = ParseIntError> {
     // A number is written in visible characters.
     ghost visible: { (n : Self) (bs : List ℕ) → writes n bs → Visible bs };
 
+    // No number is written by an empty text.
+    ghost filled: { (n : Self) (bs : List ℕ) → writes n bs → 0 < length bs };
+
     // A text writes one number.
     ghost sole: { (m n : Self) (bs : List ℕ) → writes m bs → writes n bs → m ≡ n };
 }
@@ -34,6 +37,8 @@ impl Numeral for i32 {
 
     ghost visible = { word_visible };
 
+    ghost filled = { word_filled };
+
     ghost sole = { word_sole };
 }
 
@@ -47,6 +52,8 @@ impl Numeral for u32 {
 
     ghost visible = { number_visible };
 
+    ghost filled = { number_filled };
+
     ghost sole = { number_sole };
 }
 
@@ -59,6 +66,8 @@ impl Numeral for u16 {
     ghost no_plus = { λ n bs w. w.0.no_plus };
 
     ghost visible = { kind_visible };
+
+    ghost filled = { kind_filled };
 
     ghost sole = { kind_sole };
 }

@@ -9,7 +9,7 @@ use machine::{Opens, ReplayMachine, StateMachine, UndoMachine};
 use refusal::Refusal;
 use std::io;
 use std::io::{BufRead, BufReader};
-use table::{Cells, NO_CELLS, ROWS, SIZES, cells_of, differing, line_of};
+use table::{Cells, NO_CELLS, ROWS, SIZES, cells_of, differing, measures_line, sizes_line};
 use text::{difference, millimetres};
 
 // Shows what was answered, or the number of the refusal.
@@ -29,23 +29,14 @@ fn told<T: Drop, F: FnOnce(T) -> io::Result<()>>(
     }
 }
 
-fn show_sizes(rt: &HostRuntime, label: &str) -> io::Result<()> {
-    let heap = rt.alloc();
-    let line = line_of(heap, label, &SIZES, |size| format!(in heap; "{size}"))?;
-    println!(rt; "{line}")
-}
-
-fn show_measures(rt: &HostRuntime, label: &str, measures: &[i32]) -> io::Result<()> {
-    let heap = rt.alloc();
-    let line = line_of(heap, label, measures, |tenths| millimetres(heap, tenths))?;
-    println!(rt; "{line}")
-}
-
 fn show(rt: &HostRuntime, cells: &Cells) -> io::Result<()> {
-    show_sizes(rt, "measure")?;
+    let heap = rt.alloc();
+    let sizes = sizes_line(heap, "measure")?;
+    println!(rt; "{sizes}")?;
     for (number, row) in ROWS.iter().zip(cells) {
-        let label = format!(in rt.alloc(); "{number}")?;
-        show_measures(rt, label.as_str(), &row.map(i32::from))?;
+        let label = format!(in heap; "{number}")?;
+        let line = measures_line(heap, label.as_str(), &row.map(i32::from))?;
+        println!(rt; "{line}")?;
     }
     Ok(())
 }
@@ -65,8 +56,11 @@ fn seam<M: StateMachine>(machine: &M, first: i32, second: i32) -> Result<[i32; 1
 }
 
 fn show_seam(rt: &HostRuntime, measures: &[i32]) -> io::Result<()> {
-    show_sizes(rt, "size")?;
-    show_measures(rt, "seam", measures)
+    let heap = rt.alloc();
+    let sizes = sizes_line(heap, "size")?;
+    let line = measures_line(heap, "seam", measures)?;
+    println!(rt; "{sizes}")?;
+    println!(rt; "{line}")
 }
 
 fn compare(rt: &HostRuntime, marked: &Cells, cells: &Cells) -> io::Result<()> {

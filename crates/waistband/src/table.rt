@@ -5,6 +5,7 @@ ghost use Rattle.machine.specs.States.{newest};
 
 use machine::StateMachine;
 use std::alloc::{AllocError, Global};
+use text::millimetres;
 
 pub type Cells = [[u16; 12]; 8];
 
@@ -22,18 +23,27 @@ pub(crate) fn cell_at<M: StateMachine>(machine: &M, row: i32, size: i32) -> u16
 }
 
 // Every cell of the newest sheet.
+// Kept: cells written one by one, since a `map` of `map`s takes twice the time.
 pub(crate) fn cells_of<M: StateMachine>(machine: &M) -> Cells {
-    ROWS.map(|row| SIZES.map(|size| cell_at(machine, row, size)))
+    let mut cells = NO_CELLS;
+    for (row, number) in cells.iter_mut().zip(1..9) {
+        for (j, cell) in row.iter_mut().enumerate() {
+            if j < 12 {
+                *cell = cell_at(machine, number, j as i32 + 1);
+            }
+        }
+    }
+    cells
 }
 
 // How many cells differ.
 pub(crate) fn differing(first: &Cells, second: &Cells) -> usize {
-    let pairs = first.iter().flatten().zip(second.iter().flatten());
+    let pairs = first.as_flattened().iter().zip(second.as_flattened());
     pairs.filter(|(a, b)| a != b).count()
 }
 
-// A label, and the text of each number.
-pub(crate) fn line_of<F: Fn(i32) -> Result<String, AllocError>>(
+// A label, and the text of each number, which fills its column.
+fn line_of<F: Fn(i32) -> Result<String, AllocError>>(
     heap: Global,
     label: &str,
     numbers: &[i32],
@@ -44,8 +54,24 @@ pub(crate) fn line_of<F: Fn(i32) -> Result<String, AllocError>>(
     let mut line = format!(in heap; "{label:>7}")?;
     for number in numbers {
         let text = text_of(*number)?;
-        let padded = format!(in heap; "{text:>8}")?;
-        line.push_str(padded.as_str())?;
+        line.push_str(text.as_str())?;
     }
     Ok(line)
+}
+
+// A label, and the numbers of the sizes.
+pub(crate) fn sizes_line(heap: Global, label: &str) -> Result<String, AllocError> {
+    line_of(heap, label, &SIZES, |size| format!(in heap; "{size:>8}"))
+}
+
+// A label, and each measure in millimetres.
+pub(crate) fn measures_line(
+    heap: Global,
+    label: &str,
+    measures: &[i32],
+) -> Result<String, AllocError> {
+    line_of(heap, label, measures, |tenths| {
+        let text = millimetres(heap, tenths)?;
+        format!(in heap; "{text:>8}")
+    })
 }

@@ -1,5 +1,5 @@
 // Handing entries down to a store.
-ghost use Rattle.std.specs.Prelude.{◌≡◌, ◌<◌, length};
+ghost use Rattle.std.specs.Prelude.{◌≡◌, ◌<◌, length, vec_capacity};
 ghost use Rattle.buffered_store.specs.Layers.{extended, over, whole, with_room};
 ghost use Rattle.buffered_store.specs.Buffered.{layered};
 
@@ -19,7 +19,8 @@ fn append_all<S: Store>(below: &mut S, entries: &[Entry])
 impl<S: Store> BufferedStore<S> {
     // Hands all entries down.
     pub(crate) fn hand_down(&mut self)
-        ensures { layered S.Store self.new ≡ over (whole (layered S.Store self.old)) }
+        ensures layer { layered S.Store self.new ≡ over (whole (layered S.Store self.old)) }
+        ensures capacity { vec_capacity self.new.own.items ≡ vec_capacity self.old.own.items }
     {
         append_all(&mut self.below, self.own.items());
         self.own.clear();
@@ -29,6 +30,7 @@ impl<S: Store> BufferedStore<S> {
     pub(crate) fn make_room(&mut self)
         ensures layer { layered S.Store self.new ≡ with_room (layered S.Store self.old) }
         ensures room { length (layered S.Store self.new).own < 8 }
+        ensures capacity { vec_capacity self.new.own.items ≡ vec_capacity self.old.own.items }
     {
         if self.own.len() >= MAX_HELD {
             self.hand_down();

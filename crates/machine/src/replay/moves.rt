@@ -55,7 +55,8 @@ impl StateMachine for ReplayMachine {
 
     fn settle(&mut self) -> Result<(), Refusal> {
         let edit = self.edits.pop_first()?;
-        self.oldest.change(edit);
+        // Kept: by value, since in place the archive for C needs memmove from outside.
+        self.oldest = self.oldest.apply(edit);
         Ok(())
     }
 

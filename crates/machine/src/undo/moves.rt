@@ -32,7 +32,7 @@ fn put_back(sheet: &mut Sheet, replaced: Replaced)
     }
 }
 
-#[tactic(auto, using(crate::specs::StepsBack::back_count, crate::specs::StepsBack::back_newest, crate::specs::StepsBack::back_more, crate::specs::StepsBack::back_settled, crate::specs::StepsBack::back_undone), unfolding(crate::specs::Sheets::undo_states))]
+#[tactic(auto, using(crate::specs::StepsBack::back_count, crate::specs::StepsBack::back_newest, crate::specs::StepsBack::back_more, crate::specs::StepsBack::back_oldest, crate::specs::StepsBack::back_undone), unfolding(crate::specs::Sheets::undo_states))]
 impl StateMachine for UndoMachine {
     ghost State = { List (List ℕ) };
 

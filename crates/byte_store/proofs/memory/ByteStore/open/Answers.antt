@@ -1,5 +1,5 @@
 use Rattle.std.proofs.Common.{replicate, arith}
-use Rattle.byte_store.specs.Steps.{opened_law, clear_law}
+use Rattle.byte_store.specs.Steps.{opened_law, no_ballot, clear_law}
 use Rattle.byte_store.proofs.memory.ByteStore.open.Goals as goal
 
 pub invariant_of-result : goal.invariant_of-result
@@ -12,4 +12,4 @@ invariant_of-result c =
     }
 
 pub returns : goal.returns
-returns c = clear_law (replicate 1674 0) c.put_ballot.new.bytes _ (omega arith, omega arith) c.put_ballot.ensures (λ i. record { term = c.default.ensures.0 i; vote = c.default.ensures.1 i })
+returns c = clear_law (replicate 1674 0) c.put_ballot.new.bytes _ (omega arith, omega arith) c.put_ballot.ensures (no_ballot _ (omega arith) (omega arith))

@@ -13,6 +13,6 @@ returns-then-n-below-clause-after g c =
     let sound = g.met.S.Store.sound c.args.self.now.below in
     let within = subst (λ k. c.args.n ≤ k) c.len.ensures c.if-n-len.false in
     let above = subst (λ k. k ≤ c.args.n) c.len-below.ensures c.if-n-below.true in
-    ap (λ xs. extended xs m) (c.truncate.ensures ∙ ap (λ k. take (n - k) own) c.len-below.ensures)
+    ap (λ xs. extended xs m) (c.truncate.ensures.items ∙ ap (λ k. take (n - k) own) c.len-below.ensures)
     ∙ cut_added m own n sound above (omega (arith, within, (extended_sound m own sound).few))
     ∙ sym (cond-true (reaches n (extended own m)) (cut n (extended own m)) (extended own m) (le-leb _ _ within))

@@ -19,4 +19,4 @@ pushed (Err x) s es more e h = ap (steps_on (s ∷ [])) h.2 ∙ applied_same _ (
 pub returns-clause-after : goal.returns-clause-after
 unfolding replay_states
 returns-clause-after c =
-    pushed c.push.result (cells_of c.args.self.now.oldest) c.args.self.now.edits.items.items c.push.new.self.items.items c.args.edit c.push.ensures
+    pushed c.push.result (cells_of c.args.self.now.oldest) c.args.self.now.edits.items.items c.push.new.self.items.items c.args.edit c.push.ensures.items
