@@ -83,7 +83,7 @@ pub fn rounds<M: Opens + Drop>(heap: Global, count: u32) -> Result<u64, AllocErr
 }
 
 // The rounds over a machine that keeps replaced rows; the largest number where there is no memory.
-// Kept: two names of one generic function, since C calls each by its name, and neither can fail.
+// Kept: two names of one generic function, since callers had these two, of which neither can fail.
 pub fn undo_rounds(heap: Global, count: u32) -> u64 {
     rounds::<UndoMachine>(heap, count).unwrap_or(u64::MAX)
 }

@@ -28,9 +28,7 @@ pub(crate) fn cells_of<M: StateMachine>(machine: &M) -> Cells {
     let mut cells = NO_CELLS;
     for (row, number) in cells.iter_mut().zip(1..9) {
         for (j, cell) in row.iter_mut().enumerate() {
-            if j < 12 {
-                *cell = cell_at(machine, number, j as i32 + 1);
-            }
+            *cell = cell_at(machine, number, j as i32 + 1);
         }
     }
     cells
